@@ -1,11 +1,11 @@
-// Where an answer has its words of 32 bits, as module/glue.h lays it out: what was found, how long that is which stands
+// The words of 32 bits of an answer, as module/glue.h lays it out: what was found, how long that is which stands
 // at `out_at`, and what the call says besides.
 export const VERDICT = 0
 export const RULE = 1
 export const PLACE = 2
 export const BYTE_PLACE = 3
 export const LENGTH = 4
-// Of a check, and of a URL: where its parts end, and where the path begins, in bytes. 0xffffffff: it lacks the part.
+// For a check, and for a URL: where its parts end, and where the path begins, in bytes. 0xffffffff: it lacks the part.
 export const SCHEME_END = 5
 export const HOST_END = 6
 export const PORT_END = 7
@@ -13,7 +13,7 @@ export const PATH_START = 8
 export const PATH_END = 9
 export const QUERY_END = 10
 export const FRAGMENT_END = 11
-// Of a URL: the kind of its host, whether its path is opaque, and whether its text is the one that was resolved.
+// For a URL: the kind of its host, whether its path is opaque, and whether its text is the one that was resolved.
 export const HOST_KIND = 12
 export const OPAQUE_PATH = 13
 export const IS_SAME = 14

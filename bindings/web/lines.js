@@ -12,7 +12,7 @@ const LF = 10
 const PIECE = 1 << 20
 
 /**
- * Where a piece of whole lines ends that begins there: so many bytes are checked at a time, or a longer line.
+ * Returns the end of a piece of whole lines that begins there: so many bytes are checked at a time, or a longer line.
  * @param {Uint8Array} bytes
  * @param {number} start
  * @returns {number}
@@ -34,7 +34,7 @@ function pieceEnd(bytes, start) {
  */
 function add(many, room, names, start) {
   const { answer, exports } = room
-  const words = new Uint32Array(exports.memory.buffer, exports.out_at(), answer[LENGTH] * ROW_WORDS)
+  const words = new Uint32Array(exports.memory.buffer, exports.out_at() >>> 0, answer[LENGTH] * ROW_WORDS)
   for (let at = 0; at < words.length; at += ROW_WORDS) {
     const from = start + words[at + ROW_START]
     many.refused.push({
@@ -56,7 +56,7 @@ function add(many, room, names, start) {
  * @param {readonly (import('./urlcheck.js').RuleName)[]} names of the rules
  * @param {Uint8Array} bytes
  * @param {number} profile
- * @param {number} isHeld 1, or 0 if each line is checked alone
+ * @param {number} isHeld 1, or 0 if each line is checked by itself
  * @returns {Many}
  * @throws {RangeError} if there is no memory for a line
  */

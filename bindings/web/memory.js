@@ -13,7 +13,6 @@ import { ANSWER_WORDS, DONE, LENGTH, MEMORY, NO_COLUMN, NO_PLACE, VERDICT } from
  * @property {() => number} out_at
  * @property {(baseLength: number, profile: number) => void} prepare
  * @property {(length: number, profile: number, isHeld: number) => void} check
- * @property {(length: number, profile: number, isHeld: number) => number} is_valid
  * @property {(length: number, profile: number, isHeld: number) => void} faults
  * @property {(length: number, profile: number, baseLength: number) => void} resolve
  * @property {(length: number, profile: number, baseLength: number) => void} mend
@@ -22,7 +21,7 @@ import { ANSWER_WORDS, DONE, LENGTH, MEMORY, NO_COLUMN, NO_PLACE, VERDICT } from
  * @property {(format: number, fileLength: number) => void} report_file_begin
  * @property {(format: number) => void} report_file_end
  * @property {(format: number, completion: number) => void} report_end
- * @property {(length: number, profile: number, wording: number, rule: number, place: number) => void} message
+ * @property {(length: number, profile: number, isHeld: number, wording: number, rule: number, place: number) => void} message
  * @property {(format: number, unit: number, isFirst: number, rule: number, place: number, line: number, column: number,
  *   length: number, fileLength: number, kind: number, isOffered: number, fixLength: number) => void} diagnostic
  * @property {(format: number) => number} shows_mended
@@ -75,7 +74,6 @@ export class Room {
     this.exports = exports
     // An export is looked up once, since each look takes as long as a short call.
     this.check = exports.check
-    this.isValid = exports.is_valid
     this.resolve = exports.resolve
     this.textRoom = this.baseRoom = 0
     /** The answer, in words of 32 bits. */
@@ -83,8 +81,8 @@ export class Room {
     /** The rooms of the text and of the base. */
     this.text = this.base = new Uint8Array(0)
     this.isLarge = false
-    /** The text that is in the room of the base, and the length of its UTF-8. */
-    this.baseText = ''
+    /** The text that is in the room of the base, if one is known to be there, and the length of what is there. */
+    this.baseText = /** @type {string | undefined} */ ('')
     this.baseLength = 0
     /** The base that the module holds, if it holds one, and its profile. */
     this.heldText = /** @type {string | undefined} */ (undefined)
@@ -96,9 +94,10 @@ export class Room {
   look() {
     if (this.answer.length !== 0) return
     const { memory, text_at, base_at, answer_at } = this.exports
-    this.answer = new Uint32Array(memory.buffer, answer_at(), ANSWER_WORDS)
-    this.text = new Uint8Array(memory.buffer, text_at(), this.textRoom)
-    this.base = new Uint8Array(memory.buffer, base_at(), this.baseRoom)
+    // (an address from 2 GiB on comes out of the module as a number below 0)
+    this.answer = new Uint32Array(memory.buffer, answer_at() >>> 0, ANSWER_WORDS)
+    this.text = new Uint8Array(memory.buffer, text_at() >>> 0, this.textRoom)
+    this.base = new Uint8Array(memory.buffer, base_at() >>> 0, this.baseRoom)
   }
 
   /**
@@ -178,8 +177,8 @@ export class Room {
       this.base.set(part, at)
       at += part.length
     }
-    // (these bytes need not be a base's, so no base is known to be in the room)
-    this.baseText = ''
+    // (these bytes need not be a base's, so no base is known to be in the room, and the empty one isn't)
+    this.baseText = undefined
     this.baseLength = length
   }
 
@@ -207,7 +206,7 @@ export class Room {
    */
   out(length) {
     const { memory, out_at } = this.exports
-    return decoder.decode(new Uint8Array(memory.buffer, out_at(), length))
+    return decoder.decode(new Uint8Array(memory.buffer, out_at() >>> 0, length))
   }
 
   /**

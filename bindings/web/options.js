@@ -58,14 +58,21 @@ export function wordingNumber(wording = 'arguments') {
   return number
 }
 
+/** The options that calls take. */
+const NAMES = ['base', 'profile', 'wording']
+
 /**
- * Throws if something else is given in place of the options, such as a string or a base: it would silently be ignored.
+ * Throws if something else is given in place of the options, such as a string or a base, or an option that no call
+ * takes: it would silently be ignored.
  * @param {unknown} options
  */
 export function stopUnlessOptions(options) {
   if (options == null) return
-  if (typeof options !== 'object') throw new TypeError('the options are no object, such as { base: text, profile: name }')
+  if (typeof options !== 'object') throw new TypeError("the options aren't an object, such as { base: text, profile: name }")
   if (CheckedBase.is(options)) throw new TypeError('a base is in the place of the options: write { base }')
+  for (const name in options) {
+    if (!NAMES.includes(name)) throw new TypeError(`there is no option ${name}, but base, profile and wording`)
+  }
 }
 
 /**

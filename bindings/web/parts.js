@@ -24,7 +24,7 @@ export class UnitWalker {
   }
 
   /**
-   * The index of a byte. The lengths are those of UTF-8; a pair of surrogates is one code point of four bytes.
+   * The index of a byte. Lengths are counted in UTF-8; a pair of surrogates is one code point of four bytes.
    * @param {number} byte where a code point begins, or the text's end; not before the byte that was asked last
    * @returns {number}
    */

@@ -1,5 +1,6 @@
 // Reports, as `urlcheck lint` writes them: the library writes each piece of one.
 import { encoded } from './memory.js'
+import { readingOf } from './options.js'
 
 /** @typedef {import('./urlcheck.js').Completion} Completion */
 /** @typedef {import('./urlcheck.js').Diagnostic} Diagnostic */
@@ -18,8 +19,8 @@ const MOST = 0xffffffff
  * What a report asks of its checker.
  * @typedef {object} Numbers
  * @property {(rule: unknown) => number} ofRule
- * @property {(profile: unknown) => number} ofProfile
  * @property {(kind: unknown) => number} ofKind
+ * @property {(base: string | undefined, profile: number) => number} hold whether a base is held now
  */
 
 /**
@@ -86,11 +87,12 @@ export class Report {
    * What is reported of a violation.
    * @param {Diagnostic} told
    * @returns {string}
+   * @throws {BaseRefused} if the base isn't valid by itself
    * @throws {TypeError} where a text has a lone surrogate, or no rule, kind or profile has the name
    * @throws {RangeError} if the place is after the end of the text, or the line or a column isn't from 1 to
    *   4294967295; or there is no memory for it
    */
-  diagnostic({ file, line, column = 1, text, rule, place, profile, mended }) {
+  diagnostic({ file, line, column = 1, text, rule, place, profile, base, mended }) {
     const room = this.#room
     const name = encoded(file, 'name of the file')
     const instead = encoded(mended?.text ?? '', 'mended text')
@@ -98,13 +100,17 @@ export class Report {
     const at = wholeNumber(place, 'place', 0)
     const where = [wholeNumber(line, 'line', 1), wholeNumber(column, 'column', 1)]
     const kind = mended ? this.#numbers.ofKind(mended.kind) : 0
+    const isOffered = mended?.isOffered ? 1 : 0
+    const by = readingOf({ base, profile })
     const length = room.put(text)
+    const isHeld = this.#numbers.hold(by.base, by.profile)
     room.putInBase(name, instead)
-    // (the module reads the sentence where `message` leaves it, so nothing may be called between the two)
-    room.exports.message(length, this.#numbers.ofProfile(profile), this.#wording, number, at)
+    // (the module reads the sentence where `message` leaves it, so nothing may be called between the two, and a getter of
+    // what was given may call the checker)
+    room.exports.message(length, by.profile, isHeld, this.#wording, number, at)
     room.stopUnlessWritten()
     room.exports.diagnostic(this.#format, this.#unit, this.#isFirst ? 1 : 0, number, at, where[0], where[1], length,
-      name.length, kind, mended?.isOffered ? 1 : 0, instead.length)
+      name.length, kind, isOffered, instead.length)
     const written = room.writtenText()
     this.#isFirst = false
     return written

@@ -49,13 +49,13 @@ export function explanationOf(room, rule, number) {
   return Object.freeze({
     rule,
     sentence: said(RULE_SENTENCE),
-    asks: said(RULE_REQUIRES),
+    requires: said(RULE_REQUIRES),
     section: said(RULE_SECTION),
     example: Object.freeze({
       text: said(EXAMPLE),
       base: base === '' ? null : base,
       place: room.exports.example_place(number),
-      meant: said(EXAMPLE_MENDED)
+      mended: said(EXAMPLE_MENDED)
     })
   })
 }

@@ -1,6 +1,9 @@
-// Where `urlcheck.wasm` comes from: the source that a caller gives to `load`, made a compiled module.
+// The origin of `urlcheck.wasm`: the source that a caller gives to `load`, made a compiled module.
 
 /** @typedef {import('./urlcheck.js').Source} Source */
+
+/** The address of this file. (A bundler takes `new URL(name, import.meta.url)` for a file of its own, which a variable can't name.) */
+const HERE = import.meta.url
 
 /**
  * The bytes of a file, or an answer of a server that has them.
@@ -39,5 +42,5 @@ async function compiled(source) {
 export async function moduleOf(source) {
   if (source instanceof WebAssembly.Module) return source
   const isAddress = typeof source === 'string' || source instanceof URL
-  return compiled(isAddress ? await fetched(new URL(source, import.meta.url)) : source)
+  return compiled(isAddress ? await fetched(new URL(source, HERE)) : source)
 }

@@ -41,7 +41,7 @@ export interface Checker {
    * All violations of a text, by place and at one place by the rule's number; none if it is valid.
    * @throws what `check` throws
    */
-  faults(text: string, options?: Options): Fault[]
+  violations(text: string, options?: Options): Violation[]
 
   /**
    * The record of the URL that a valid text denotes, and its text.
@@ -72,13 +72,14 @@ export interface Checker {
   checkMany(lines: Uint8Array, options?: Options): Many
 
   /**
-   * The sentence on a violation of a text, as `urlcheck lint` writes it after `error: `, in a wording of your choice.
-   * @param violation such as a fault or a refusal
+   * The sentence on a violation of a text, as `urlcheck lint` writes it after `error: `, in a wording of your choice. It
+   * names a wider profile only if that accepts the text against the same base.
+   * @param violation such as one of `violations`, or a refusal
    * @param options the profile under which the text was checked, and the wording
    * @throws {TypeError} if a text isn't a string or has a lone surrogate, or no rule, profile or wording has the name
    * @throws {RangeError} if the place is after the end of the text, or there is no memory
    */
-  message(text: string, violation: Violation, options?: MessageOptions): string
+  message(text: string, violation: ViolationLike, options?: MessageOptions): string
 
   /**
    * A report in pieces, as `urlcheck lint` writes it: `begin`, for each file `fileBegin`, its diagnostics and
@@ -185,9 +186,9 @@ export interface Many {
 export interface RefusedLine {
   /** Its number, from 1. */
   line: number
-  /** Where its text begins, in bytes: `lines.subarray(start, end)` is the text. */
+  /** The beginning of its text, in bytes: `lines.subarray(start, end)` is the text. */
   start: number
-  /** Where its text ends, in bytes. */
+  /** The end of its text, in bytes. */
   end: number
   rule: RuleName | 'not-utf8'
   /** The first wrong place, in code points of the line's text; if it isn't UTF-8, the first wrong byte's place. */
@@ -197,7 +198,7 @@ export interface RefusedLine {
 }
 
 /** A rule that a text violates, or why a line isn't checked, and where. */
-export interface Violation {
+export interface ViolationLike {
   rule: RuleName | LineRule
   /** In code points. */
   place: number
@@ -241,7 +242,7 @@ export interface Report {
 }
 
 /** A violation of a text in a file. */
-export interface Diagnostic extends Violation {
+export interface Diagnostic extends ViolationLike {
   /** The name of the file. */
   file: string
   /** The line that has the text, from 1. */
@@ -251,11 +252,13 @@ export interface Diagnostic extends Violation {
   text: string
   /** The profile under which the text was checked; by default the standard one. */
   profile?: Profile | undefined
+  /** The base against which it was checked, if it was. */
+  base?: string | Base | null | undefined
   /** What a program may write in place of the text, or nothing. */
   mended?: Mended | null | undefined
 }
 
-/** Where a part begins, and the index after its end. */
+/** The index of a part's beginning, and the index after its end. */
 export type Range = [start: number, end: number]
 
 /**
@@ -290,7 +293,7 @@ export interface Ranges {
 }
 
 /** A rule that a text violates, and where. */
-export interface Fault {
+export interface Violation {
   rule: RuleName
   /** In code points. */
   place: number
@@ -298,8 +301,8 @@ export interface Fault {
   index: number
 }
 
-/** The first fault of a text that isn't valid. */
-export interface Refused extends Fault {
+/** The first violation of a text that isn't valid. */
+export interface Refused extends Violation {
   valid: false
 }
 
@@ -343,10 +346,10 @@ export interface UrlRecord {
 /** An explanation of a rule. */
 export interface Explanation {
   readonly rule: RuleName
-  /** What is wrong at the place of a fault. */
+  /** What is wrong at the place of a violation. */
   readonly sentence: string
   /** What the rule requires. */
-  readonly asks: string
+  readonly requires: string
   /** The section of the URL Standard that requires it. */
   readonly section: string
   /** A text that violates the rule, with the base that it is read against, the place, and a valid text that was meant. */
@@ -358,7 +361,7 @@ export interface Example {
   readonly text: string
   readonly base: string | null
   readonly place: number
-  readonly meant: string
+  readonly mended: string
 }
 
 /** The base violates a rule; the text wasn't checked. */

@@ -29,12 +29,12 @@ import { moduleOf } from './source.js'
 /** @typedef {import('./urlcheck.js').Resolved} Resolved */
 /** @typedef {import('./urlcheck.js').Mended} Mended */
 /** @typedef {import('./urlcheck.js').MendKind} MendKind */
-/** @typedef {import('./urlcheck.js').Fault} Fault */
 /** @typedef {import('./urlcheck.js').Explanation} Explanation */
 /** @typedef {import('./urlcheck.js').Source} Source */
 /** @typedef {import('./urlcheck.js').RuleName} RuleName */
 /** @typedef {import('./urlcheck.js').LineRule} LineRule */
 /** @typedef {import('./urlcheck.js').Violation} Violation */
+/** @typedef {import('./urlcheck.js').ViolationLike} ViolationLike */
 /** @typedef {import('./urlcheck.js').Many} Many */
 /** @typedef {import('./urlcheck.js').ReportFormat} ReportFormat */
 /** @typedef {import('./urlcheck.js').ColumnUnit} ColumnUnit */
@@ -58,7 +58,16 @@ function kindNumber(kind) {
   return at + 1
 }
 
-/** The base, checked alone, violates a rule; nothing is said of the text. */
+/**
+ * Whether it is a `Uint8Array`, of this realm or another one, as of a frame or of Node's `vm`.
+ * @param {unknown} it
+ * @returns {it is Uint8Array}
+ */
+function isBytes(it) {
+  return ArrayBuffer.isView(it) && Object.prototype.toString.call(it) === '[object Uint8Array]'
+}
+
+/** The base, checked by itself, violates a rule; the text isn't checked. */
 export class BaseRefused extends Error {
   /**
    * @param {RuleName} rule the violated rule
@@ -96,11 +105,11 @@ class Checker {
   }
 
   /**
-   * Whether a text is a valid URL string, alone or against a base, which is checked alone under the same profile.
+   * Whether a text is a valid URL string, alone or against a base, which is checked by itself under the same profile.
    * @param {string} text
    * @param {Options} [options]
    * @returns {Valid | Refused}
-   * @throws {BaseRefused} if the base isn't valid alone
+   * @throws {BaseRefused} if the base isn't valid by itself
    * @throws {TypeError} where a text isn't a string or has a lone surrogate, or no profile has the name
    * @throws {RangeError} if there is no memory for the text; the next call works
    */
@@ -121,10 +130,11 @@ class Checker {
    * @throws what `check` throws
    */
   isValid(text, options) {
+    const room = this.#room
     const { base, profile } = readingOf(options)
-    const length = this.#room.put(text)
-    // The module says no even if there is no memory, which the check tells apart.
-    return this.#room.isValid(length, profile, this.#hold(base, profile)) === 1 || this.check(text, options).valid
+    const length = room.put(text)
+    room.check(length, profile, this.#hold(base, profile))
+    return !this.#isRefused(base)
   }
 
   /**
@@ -147,15 +157,15 @@ class Checker {
    * All that is wrong with a text, by place and at one place by the rule's number; nothing if it is valid.
    * @param {string} text
    * @param {Options} [options]
-   * @returns {Fault[]}
+   * @returns {Violation[]}
    * @throws what `check` throws
    */
-  faults(text, options) {
+  violations(text, options) {
     const room = this.#room
     const { base, profile } = readingOf(options)
     const length = room.put(text)
     room.exports.faults(length, profile, this.#hold(base, profile))
-    return this.#isRefused(base) ? this.#faults(text, length) : []
+    return this.#isRefused(base) ? this.#violations(text, length) : []
   }
 
   /**
@@ -212,18 +222,21 @@ class Checker {
   /**
    * The sentence on a violation of a text: what a report for compilers has after `error: `.
    * @param {string} text
-   * @param {Violation} violation such as a fault, or a refusal
-   * @param {MessageOptions} [options] by whose profile it was checked
+   * @param {ViolationLike} violation such as a violation, or a refusal
+   * @param {MessageOptions} [options] by whose profile, and against whose base, it was checked
    * @returns {string}
+   * @throws {BaseRefused} if the base isn't valid by itself
    * @throws {TypeError} where a text is no string or has a lone surrogate, or no rule, profile or wording has the name
    * @throws {RangeError} if the place is after the end of the text, or there is no memory for the sentence
    */
   message(text, { rule, place }, options) {
     const room = this.#room
-    const { profile } = readingOf(options)
-    const length = room.put(text)
+    const { base, profile } = readingOf(options)
     const wording = wordingNumber(options?.wording)
-    room.exports.message(length, profile, wording, this.#numberOfAny(rule), wholeNumber(place, 'place', 0))
+    const number = this.#numberOfAny(rule)
+    const at = wholeNumber(place, 'place', 0)
+    const length = room.put(text)
+    room.exports.message(length, profile, this.#hold(base, profile), wording, number, at)
     return room.writtenText()
   }
 
@@ -242,22 +255,23 @@ class Checker {
     const other = unit === undefined ? this.units.findIndex((_, number) => takes(number)) : this.units.indexOf(unit)
     if (other < 0) throw new TypeError(`no unit has the name ${String(unit)}`)
     if (!takes(other)) throw new TypeError(`the format ${format} has no word for ${String(unit)}`)
-    const numbers = { ofRule: this.#numberOfAny, ofProfile: profileNumber, ofKind: kindNumber }
+    const hold = this.#hold.bind(this)
+    const numbers = { ofRule: this.#numberOfAny, ofKind: kindNumber, hold }
     return new Report(this.#room, numbers, one, other, wordingNumber(wording))
   }
 
   /**
-   * Checks the lines of bytes by few calls of the module. A line ends with LF, and one CR before that is no part of it;
+   * Checks the lines of bytes by few calls of the module. A line ends with LF, and one CR before that isn't part of it;
    * an empty one is passed over.
    * @param {Uint8Array} lines in UTF-8
    * @param {Options} [options]
    * @returns {Many}
-   * @throws {TypeError} where the lines aren't `Uint8Array`, and what else `check` throws of its options
+   * @throws {TypeError} if the lines aren't a `Uint8Array`, and what else `check` throws of its options
    * @throws {RangeError} if there is no memory for a line; the next call works
    */
   checkMany(lines, options) {
     const { base, profile } = readingOf(options)
-    if (!(lines instanceof Uint8Array)) throw new TypeError('the lines are no Uint8Array')
+    if (!isBytes(lines)) throw new TypeError("the lines aren't a Uint8Array")
     return checkedLines(this.#room, this.rules, lines, profile, this.#hold(base, profile))
   }
 
@@ -303,17 +317,17 @@ class Checker {
     if (verdict <= REFUSED) return verdict === REFUSED
     if (verdict === MEMORY) room.stopForMemory()
     if (verdict !== BASE_REFUSED || base === undefined) throw new Error(`urlcheck.wasm answers ${verdict}`)
-    const { rule, place, index } = this.#fault(base, -1)
+    const { rule, place, index } = this.#violation(base, -1)
     throw new BaseRefused(rule, place, index, rule === 'no-scheme' ? 'it has no scheme' : this.explain(rule).sentence)
   }
 
   /**
-   * The fault that a call has found of a text.
+   * The violation that a call has found of a text.
    * @param {string} text
    * @param {number} length of its UTF-8
-   * @returns {Fault}
+   * @returns {Violation}
    */
-  #fault(text, length) {
+  #violation(text, length) {
     const { answer } = this.#room
     const byte = answer[BYTE_PLACE]
     const index = length === text.length ? byte : new UnitWalker(text).indexOf(byte)
@@ -327,21 +341,21 @@ class Checker {
    * @returns {Refused}
    */
   #refused(text, length) {
-    return { valid: false, ...this.#fault(text, length) }
+    return { valid: false, ...this.#violation(text, length) }
   }
 
   /**
-   * The faults that a call has written, at `out_at`. They come by their places, so one walk finds all indices.
+   * The violations that a call has written, at `out_at`. They come by their places, so one walk finds all indices.
    * @param {string} text
-   * @param {number} length of its UTF-8, which is that of the text if it is ASCII
-   * @returns {Fault[]}
+   * @param {number} length of its UTF-8, which is the text's length if it is ASCII
+   * @returns {Violation[]}
    */
-  #faults(text, length) {
+  #violations(text, length) {
     const { answer, exports } = this.#room
     const walker = new UnitWalker(text)
     const isAscii = length === text.length
     const found = []
-    const words = new Uint32Array(exports.memory.buffer, exports.out_at(), answer[LENGTH] * FAULT_WORDS)
+    const words = new Uint32Array(exports.memory.buffer, exports.out_at() >>> 0, answer[LENGTH] * FAULT_WORDS)
     for (let at = 0; at < words.length; at += FAULT_WORDS) {
       const byte = words[at + FAULT_BYTE_PLACE]
       const index = isAscii ? byte : walker.indexOf(byte)
@@ -352,7 +366,7 @@ class Checker {
 }
 
 /**
- * Loads the module and gives a checker. Without a source it is the `urlcheck.wasm` beside this file.
+ * Loads the module and gives a checker. Without a source it is the `urlcheck.wasm` next to this file.
  * @param {Source} [source] the module, its bytes, or its address, which may be relative to this file
  * @returns {Promise<Checker>}
  */

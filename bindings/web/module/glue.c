@@ -1,6 +1,6 @@
 /*
  * What urlcheck.js calls: the functions of include/urlcheck.h on the texts that are in the rooms, with numbers of 32
- * bits alone, so that the caller needs no BigInt. An answer is at `answer_at` until the next call, in words of 32 bits,
+ * bits only, so that the caller needs no BigInt. An answer is at `answer_at` until the next call, in words of 32 bits,
  * and what else was written at `out_at`. The base that `prepare` has checked is held until the next one.
  */
 #include "glue.h"
@@ -54,7 +54,7 @@ void say(const urlcheck_finding *found, uint64_t length) {
 /* Where a part ends that isn't there. */
 #define ABSENT 0xffffffff
 
-/* Where a part ends, in bytes of the text. */
+/* The end of a part, in bytes of the text. */
 static uint32_t end_of(const urlcheck_span *part) {
     return part->present ? (uint32_t)(part->start + part->length) : ABSENT;
 }
@@ -91,12 +91,6 @@ void check(uint32_t length, uint32_t profile, uint32_t is_held) {
     proved_check(&checked, heap_text(), length, profile, &held, is_held);
     say(&checked.found, 0);
     say_parts(&checked.parts);
-}
-
-/* 1 if the text is known to be valid, otherwise 0. */
-uint32_t is_valid(uint32_t length, uint32_t profile, uint32_t is_held) {
-    heap_empty();
-    return proved_is_valid(heap_text(), length, profile, &held, is_held);
 }
 
 /* All faults are at `out`. */

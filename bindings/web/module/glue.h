@@ -6,6 +6,8 @@
 #define URLCHECK_GLUE_H
 
 #include "heap.h"
+/* (the proved functions have the names of the inline ones) */
+#define URLCHECK_NO_INLINE
 #include "urlcheck.h"
 
 /*
@@ -15,8 +17,6 @@
 #define PROVED(name) __asm__("urlcheck_" name)
 uint64_t proved_check(urlcheck_answer *answer, const uint8_t *text, size_t length, uint32_t profile,
                       const urlcheck_base *base, uint32_t has_base) PROVED("check");
-uint32_t proved_is_valid(const uint8_t *text, size_t length, uint32_t profile, const urlcheck_base *base,
-                         uint32_t has_base) PROVED("is_valid");
 
 /* Where an answer has its words of 32 bits: layout.js has the same numbers. At LENGTH is how much a call has written. */
 enum {

@@ -9,7 +9,7 @@
 #include <stddef.h>
 #include <stdint.h>
 
-/* Lays out the rooms anew and empties the heap. False: the engine gives no more memory, and the rooms are as before. */
+/* Lays out the rooms again, empties the heap. False: the engine gives no more memory, and the rooms are as before. */
 bool heap_lay_out(uint64_t text_bytes, uint64_t base_bytes);
 
 /* Where the rooms begin. */

@@ -20,7 +20,7 @@ typedef struct {
     urlcheck_finding found;
     uint32_t lines;   /* how many lines were checked or passed over */
     uint32_t empty;   /* how many of them are empty, and were passed over */
-    uint32_t refused; /* how many of them aren't valid; their rows are at `out` */
+    uint32_t refused; /* the number of lines that aren't valid; their rows are at `out` */
     uint32_t next;    /* where the line after them begins */
 } lines_checked;
 
@@ -36,18 +36,18 @@ static urlcheck_line first_line(const uint8_t *lines, size_t length, size_t from
     return (urlcheck_line){.start = from, .length = text_end - from, .next = is_closed ? end + 1 : end};
 }
 
-/* The next line that is empty or isn't valid against the base that is held: urlcheck_next_refused gives it alone. */
+/* The next line that is empty or isn't valid against the base that is held: urlcheck_next_refused gives only it. */
 static urlcheck_line next_refused_with(const uint8_t *lines, size_t length, size_t from) {
     size_t passed = 0;
     for (size_t at = from; at < length; passed++) {
         urlcheck_line line = first_line(lines, length, at);
         const uint8_t *text = lines + line.start;
-        if (line.length == 0 || !proved_is_valid(text, line.length, held.profile, &held, true)) {
-            urlcheck_answer checked;
-            proved_check(&checked, text, line.length, held.profile, &held, true);
+        urlcheck_answer checked;
+        proved_check(&checked, text, line.length, held.profile, &held, true);
+        if (line.length == 0 || checked.found.verdict != URLCHECK_VALID) {
             line.found = checked.found;
             line.passed = passed;
-            if (line.length == 0 || checked.found.verdict != URLCHECK_VALID) return line;
+            return line;
         }
         at = line.next;
     }
@@ -86,7 +86,7 @@ static void take_before(lines_checked *checked, const urlcheck_line *line) {
 
 /*
  * Checks the lines from the byte `from` on, as many as the rows have room for. What the lines before took of the heap
- * is given up if a line finds no memory, and before each row: so only a line that has none alone ends the call.
+ * is given up if a line finds no memory, and before each row: so only a line that has none by itself ends the call.
  */
 void check_lines(uint32_t length, uint32_t from, uint32_t profile, uint32_t is_held) {
     heap_empty();

@@ -1,6 +1,6 @@
 /*
  * The reports of include/urlcheck.h, and the texts that the library has of rules, formats and units, at `out`. The
- * text is in its room; in that of the base is the name of the file, and after it the mended text.
+ * text is in its room; the room of the base has the name of the file, and after it the mended text.
  */
 #include "glue.h"
 
@@ -19,7 +19,8 @@ uint64_t proved_diagnostic(urlcheck_written *answer, uint32_t format, uint32_t i
                            const uint8_t *text, size_t length, const uint8_t *fix, size_t fix_length, uint8_t *out,
                            size_t room) PROVED("diagnostic");
 uint64_t proved_message(urlcheck_written *answer, const uint8_t *text, size_t length, uint32_t profile,
-                        uint32_t wording, uint32_t rule, size_t place, uint8_t *out, size_t room) PROVED("message");
+                        const urlcheck_base *base, uint32_t has_base, uint32_t wording, uint32_t rule, size_t place,
+                        uint8_t *out, size_t room) PROVED("message");
 uint64_t proved_column(urlcheck_counted *answer, const uint8_t *text, size_t length, uint32_t unit, uint64_t start,
                        size_t place) PROVED("column");
 
@@ -52,10 +53,10 @@ void report_end(uint32_t format, uint32_t completion) {
     WRITE_TEXT(proved_report_end(&written, format, completion, out, room));
 }
 
-/* The sentence on a violation of the text. */
-void message(uint32_t length, uint32_t profile, uint32_t wording, uint32_t rule, uint32_t place) {
+/* The sentence on a violation of the text, alone or against the base that is held. */
+void message(uint32_t length, uint32_t profile, uint32_t is_held, uint32_t wording, uint32_t rule, uint32_t place) {
     heap_empty();
-    WRITE_TEXT(proved_message(&written, heap_text(), length, profile, wording, rule, place, out, room));
+    WRITE_TEXT(proved_message(&written, heap_text(), length, profile, &held, is_held, wording, rule, place, out, room));
 }
 
 /* The column of a place of the text, which begins in the column `start`, and 0 if there is none, which is said. */

@@ -29,7 +29,9 @@ void *memset(void *start, int byte, size_t count) {
 /* Copies from the first byte on: right where `to` is before `from`, or the two don't overlap. */
 static void copy_upwards(uint8_t *to, const uint8_t *from, size_t count) {
     for (; count >= sizeof(block); count -= sizeof(block), to += sizeof(block), from += sizeof(block)) {
-        *(block *)to = *(const block *)from;
+        // (all is read before it is written, since the two may overlap in part)
+        const block read = *(const block *)from;
+        *(block *)to = read;
     }
     for (; count >= sizeof(word); count -= sizeof(word), to += sizeof(word), from += sizeof(word)) {
         *(word *)to = *(const word *)from;

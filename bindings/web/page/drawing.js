@@ -8,8 +8,8 @@ export const DRAWN_FAULTS = 100
 /** The parts, in their order. */
 export const PARTS = ['scheme', 'host', 'port', 'path', 'query', 'fragment']
 
-// Controls, what turns the direction of a text, and spaces and separators but the plain space.
-const UNSEEN = /[\p{Cc}\p{Cf}\p{Zl}\p{Zp}\p{Cs}\p{Cn}\p{Co}]|(?! )\p{Zs}/u
+// Controls, what turns the direction of a text, what fonts draw as nothing, and spaces and separators but the plain space.
+const UNSEEN = /[\p{Cc}\p{Cf}\p{Zl}\p{Zp}\p{Cs}\p{Cn}\p{Co}\p{Default_Ignorable_Code_Point}]|(?! )\p{Zs}/u
 
 /** How a code point is shown that can't be seen. */
 function nameOf(point) {

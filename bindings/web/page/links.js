@@ -1,14 +1,28 @@
 // The links of an HTML file, taken by the browser's own parser into a document without scripts, that loads nothing:
-// those of the attributes that urlcheck-documents reads.
+// in the attributes that urlcheck-documents reads. It also reads style sheets and what refreshes a page.
 import { candidates, lists, urls } from './attributes.js'
 
 /** What is round an attribute's URL, if at all, and between several of them (HTML, sections 2.4.1 and 2.3.7). */
 const SPACES = /[\t\n\f\r ]+/
-const ROUND = /^[\t\n\f\r ]+|[\t\n\f\r ]+$/g
+const SPACE = '\t\n\f\r '
 /** What ends a descriptor of an image candidate, or begins a part of one that no space and no comma ends. */
 const BREAK = /[(,\t\n\f\r ]/g
 /** A word that is a descriptor, or was perhaps to be one: a number, perhaps with a unit. */
 const LIKE_DESCRIPTOR = /^(?:[-+]?[0-9.]+(?:e[-+]?[0-9]+)?[a-z]{0,2}|[wxh][0-9.]*)$/i
+
+/** A text without what is of these code points at its end. (A pattern that ends with `$` would look from each of them on.) */
+function withoutEnd(text, points) {
+  let end = text.length
+  while (end > 0 && points.includes(text[end - 1])) end--
+  return text.slice(0, end)
+}
+
+/** A text without the spaces of HTML round it. */
+function withoutSpaces(text) {
+  let start = 0
+  while (start < text.length && SPACE.includes(text[start])) start++
+  return withoutEnd(text.slice(start), SPACE)
+}
 
 /** Whether a table of attributes has one of an element. */
 function has(table, attribute, element) {
@@ -16,7 +30,7 @@ function has(table, attribute, element) {
   return elements === '' || (elements !== undefined && elements.split(' ').includes(element))
 }
 
-/** Where the descriptors end that follow a URL, which ends there, and where the link ends with words of them. */
+/** Returns two ends: of the descriptors after a URL that ends there, and of the link if words of them belong to it. */
 function candidateEnds(value, urlEnd) {
   let [at, start, end, isLink] = [urlEnd, urlEnd, urlEnd, true]
   for (;;) {
@@ -50,7 +64,7 @@ function linksOfCandidates(value) {
     }
     const start = at
     while (at < value.length && !/[\t\n\f\r ]/.test(value[at])) at++
-    let end = start + value.slice(start, at).replace(/,+$/, '').length
+    let end = start + withoutEnd(value.slice(start, at), ',').length
     if (end === at) ({ at, end } = candidateEnds(value, at))
     links.push(value.slice(start, end))
   }
@@ -59,7 +73,7 @@ function linksOfCandidates(value) {
 
 /** The links of an attribute's value. */
 function linksOfAttribute(element, attribute, value) {
-  if (has(urls, attribute, element)) return [value.replace(ROUND, '')]
+  if (has(urls, attribute, element)) return [withoutSpaces(value)]
   if (has(lists, attribute, element)) return value.split(SPACES).filter(link => link !== '')
   if (has(candidates, attribute, element)) return linksOfCandidates(value)
   return []
@@ -85,5 +99,5 @@ function* linksBelow(root) {
 export function linksOf(html) {
   const parsed = new DOMParser().parseFromString(html, 'text/html')
   const named = parsed.querySelector('base[href]')
-  return { base: named ? named.getAttribute('href').replace(ROUND, '') : null, links: [...linksBelow(parsed)] }
+  return { base: named ? withoutSpaces(named.getAttribute('href')) : null, links: [...linksBelow(parsed)] }
 }

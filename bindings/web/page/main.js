@@ -1,6 +1,7 @@
 // The page: its fields, its views and its address. Each key checks again; nothing waits for a button.
 import { load } from '../urlcheck.js'
 import { byId, element } from './elements.js'
+import { textOf } from './encodings.js'
 import { linksOf } from './links.js'
 import { fileOf } from './pieces.js'
 import { ReportView } from './report-view.js'
@@ -23,7 +24,7 @@ const PROFILES = {
 // (the module loads while the fields are filled)
 const loading = load()
 const state = readState()
-/** A list or a document that was dropped, chosen or pasted: its name, and its file, or the document's text. */
+/** A list or a document that was dropped, chosen or pasted: its name, and its file, or the document's text, or why it has none. */
 const given = { list: null, html: null }
 /** The checker and the report on a list, once the module is loaded. */
 let urlcheck = null
@@ -50,7 +51,7 @@ function fillFields() {
   document.querySelector(`input[name=profile][value=${state.profile}]`).checked = true
 }
 
-/** Shows the fields and the answer of the view, and hides those of the others. */
+/** Shows the fields and the answer of the view, and hides the others. */
 function showView() {
   for (const part of document.querySelectorAll('[data-view]')) {
     const isShown = part.dataset.view.split(' ').includes(state.view)
@@ -90,6 +91,7 @@ function baseOf(named) {
 /** Checks the links of the document that was given. */
 function checkHtml() {
   if (!given.html) return report.clear()
+  if (given.html.problem) return report.refuse(given.html.problem, [given.html.name])
   const { base: named, links } = linksOf(given.html.text)
   let read
   try {
@@ -105,6 +107,8 @@ function checkHtml() {
 function check() {
   showView()
   showAddress()
+  // (what was waited for in another view is not to be shown in this one)
+  clearTimeout(waiting.get('list'))
   if (!urlcheck) return
   if (state.view === 'text') showText(urlcheck, state, tryText)
   if (state.view === 'list') later('list', LIST_PAUSE, checkList)
@@ -124,7 +128,7 @@ function takeList(name, file) {
 async function takeFile(file, view) {
   const isHtml = /\.x?html?$/i.test(file.name) || file.type === 'text/html'
   if (view === 'html' || (isHtml && view !== 'list')) {
-    given.html = { name: file.name, text: await file.text() }
+    given.html = { name: file.name, ...await textOf(file) }
     state.view = 'html'
     check()
   } else takeList(file.name, file)
@@ -167,7 +171,9 @@ function listenToFields() {
     const text = event.clipboardData.getData('text/plain')
     if (text.length <= LONGEST_IN_FIELD) return
     event.preventDefault()
-    takeList('the pasted list', fileOf(text))
+    // (what is in the field already stays part of the list)
+    const { value, selectionStart, selectionEnd } = byId('list')
+    takeList('the pasted list', fileOf(value.slice(0, selectionStart) + text + value.slice(selectionEnd)))
   })
   for (const choice of document.querySelectorAll('input[name=profile]')) {
     choice.addEventListener('change', () => {

@@ -52,7 +52,7 @@ function* apart(bytes) {
   if (kept < bytes.length) yield { bytes: bytes.subarray(kept), isTooLong: false }
 }
 
-/** A text as a file: a lone surrogate, which no UTF-8 has, becomes a byte that none has either. */
+/** A text as a file: a lone surrogate becomes a byte that isn't UTF-8 either. */
 export function fileOf(text) {
   return new Blob(text.split(/(\p{Cs})/u).map((part, at) => (at % 2 === 0 ? part : Uint8Array.of(0xff))))
 }

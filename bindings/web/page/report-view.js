@@ -54,10 +54,18 @@ export class ReportView {
     this.profile = profile
     this.shown = 0
     this.refused = 0
+    this.isAsked = false
     this.build(note)
-    this.section.hidden = false
     this.started()
     this.ask('check', { source, name, base, profile })
+  }
+
+  /** Says why a source can't be checked, in place of a report. */
+  refuse(message, note) {
+    this.clear()
+    this.unit = 'link'
+    this.build(note)
+    this.showFailure({ message })
   }
 
   /** Takes the report away, and stops its job. */
@@ -90,6 +98,7 @@ export class ReportView {
       this.more)
     const notes = note ? [element('p', { class: 'hint note' }, ...note)] : []
     this.section.replaceChildren(this.line, ...notes, this.running, this.chart, this.rows)
+    this.section.hidden = false
   }
 
   /** A button that downloads the refused lines in a format. */
@@ -98,7 +107,7 @@ export class ReportView {
     return button(NAMES[format] ?? format, () => this.ask('download', { format }), attributes)
   }
 
-  /** Takes a message of the worker; those of an older report are passed over. */
+  /** Takes a message of the worker; messages of an older report are passed over. */
   take(message) {
     if (message.number !== this.number) return
     if (message.kind === 'progress') this.showProgress(message)

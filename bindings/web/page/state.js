@@ -5,6 +5,14 @@ const VIEWS = ['text', 'list', 'html']
 /** A text or list of more units isn't written into the address, which would be too long to send. */
 const LONGEST = 4000
 
+/** What an address can't have: a half of a surrogate pair, in whose place another code point would be sent. */
+const LONE_SURROGATE = /\p{Cs}/u
+
+/** Whether a text is sent with an address. */
+function isSent(text) {
+  return text.length <= LONGEST && !LONE_SURROGATE.test(text)
+}
+
 /** The names that an address may have for a profile; the first is meant if it has none. */
 const PROFILES = ['standard', 'wide', 'parser']
 
@@ -27,9 +35,9 @@ export function readState() {
 /** The address of a state, after `#`. */
 export function addressOf({ view, text, list, base, profile }) {
   const words = new URLSearchParams({ view })
-  if (view === 'text' && text.length <= LONGEST) words.set('text', text)
-  if (view === 'list' && list && list.length <= LONGEST) words.set('list', list)
-  if (base && base.length <= LONGEST) words.set('base', base)
+  if (view === 'text' && isSent(text)) words.set('text', text)
+  if (view === 'list' && list && isSent(list)) words.set('list', list)
+  if (base && isSent(base)) words.set('base', base)
   if (profile !== PROFILES[0]) words.set('profile', profile)
   return `#${words}`
 }

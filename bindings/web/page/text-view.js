@@ -1,10 +1,10 @@
-// The answer on one text: the verdict, the text with its parts or its wrong places, what the rules ask, the record, and
-// what the browser's own URL makes of it.
+// The answer on one text: the verdict, the text with its parts or its wrong places, what the rules require, the record,
+// and what the browser's own URL makes of it.
 import { BaseRefused } from '../urlcheck.js'
 import { button, byId, counted, element, plural } from './elements.js'
 import { DRAWN_FAULTS, PARTS, drawnText, shownText } from './drawing.js'
 
-/** Of a longer text, in UTF-16 units, only the first fault is asked for: all of them take too long for each key. */
+/** For a longer text, in UTF-16 units, only the first fault is asked for: all of them take too long for each key. */
 const LONGEST_FOR_FAULTS = 200_000
 
 /**
@@ -18,10 +18,10 @@ export function checkText(urlcheck, text, base, profile) {
     if (answer.valid) return { kind: 'valid', answer, resolved: urlcheck.resolve(text, options) }
     const isLong = text.length > LONGEST_FOR_FAULTS
     if (isLong) return { kind: 'refused', isLong, faults: [answer] }
-    const faults = urlcheck.faults(text, options)
+    const faults = urlcheck.violations(text, options)
     return { kind: 'refused', isLong, faults, instead: insteadOf(urlcheck, text, options) }
   } catch (error) {
-    if (error instanceof BaseRefused) return { kind: 'base', faults: urlcheck.faults(base, { profile }) }
+    if (error instanceof BaseRefused) return { kind: 'base', faults: urlcheck.violations(base, { profile }) }
     if (error instanceof RangeError) return { kind: 'unchecked', message: 'out of memory: the text is too large' }
     if (error instanceof TypeError) return { kind: 'unchecked', message: error.message }
     throw error
@@ -117,11 +117,11 @@ function showDrawn(text, base, said, onTry) {
 }
 
 /** A rule's example: a text that violates it, and the valid one that was meant; a button tries each. */
-function example({ text, base, meant }, onTry) {
+function example({ text, base, mended }, onTry) {
   const tried = word => button(word, () => onTry(word, base ?? ''), { class: 'mono try', title: 'try this text' })
   return element('p', { class: 'rule-example' },
     element('span', { class: 'hint' }, 'wrong '), tried(text), ' ',
-    element('span', { class: 'hint' }, 'meant '), tried(meant),
+    element('span', { class: 'hint' }, 'meant '), tried(mended),
     base === null ? null : element('span', { class: 'hint' }, ` against ${base}`))
 }
 
@@ -153,9 +153,9 @@ function numberMark(number) {
   return element('span', { class: 'number', 'aria-hidden': 'true' }, String(number))
 }
 
-/** The faults that share a sentence: where they are, what the rule asks, and an example. */
+/** The faults that share a sentence: where they are, what the rule requires, and an example. */
 function faultItem(urlcheck, { rule, sentence, numbers, places }, onTry) {
-  const { asks, section, example: shown } = urlcheck.explain(rule)
+  const { requires, section, example: shown } = urlcheck.explain(rule)
   const { first, more } = firstOf(places)
   const named = `${first.length > 1 ? 'places' : 'place'} ${first.map(counted).join(', ')}`
   return element('li', { class: 'fault card' },
@@ -164,7 +164,7 @@ function faultItem(urlcheck, { rule, sentence, numbers, places }, onTry) {
       element('strong', {}, sentence)),
     element('p', { class: 'fault-place' },
       element('code', {}, rule), ` at ${named}${more ? ` and ${counted(more)} more` : ''}`),
-    element('p', { class: 'asks' }, asks, ' ', element('span', { class: 'hint' }, `URL Standard, section ${section}`)),
+    element('p', { class: 'asks' }, requires, ' ', element('span', { class: 'hint' }, `URL Standard, section ${section}`)),
     example(shown, onTry))
 }
 
@@ -271,7 +271,7 @@ function noteOn(ours, theirs) {
   return isSame ? 'Both are the same.' : 'The browser makes another URL of it: they differ.'
 }
 
-/** Shows what is said about a text. */
+/** Shows the report on a text. */
 export function showText(urlcheck, { text, base, profile }, onTry) {
   const said = checkText(urlcheck, text, base, profile)
   showVerdict(said)

@@ -30,19 +30,25 @@ function messagesAreRead() {
 
 /** One check of a source: what was found so far, from which rows and files are made when the page asks for them. */
 class Job {
-  constructor(urlcheck, { number, source, name, base, profile }) {
-    this.urlcheck = urlcheck
+  constructor({ number, source, name, base, profile }) {
     this.number = number
     this.source = source
     this.name = name
-    // A base is checked once, before anything else: it throws if it is refused.
-    this.options = { base: base === '' ? null : urlcheck.base(base, { profile }), profile }
+    this.base = base
+    this.profile = profile
     this.isStopped = false
     this.lines = 0
     this.count = 0
     this.rows = []
     this.counts = new Map()
     this.done = 0
+  }
+
+  /** Has the checker, once it is loaded. A base is checked once, before anything else: it throws if it is refused. */
+  begin(urlcheck) {
+    const { base, profile } = this
+    this.urlcheck = urlcheck
+    this.options = { base: base === '' ? null : urlcheck.base(base, { profile }), profile }
   }
 
   /** How much there is to check: links, or bytes of a file. */
@@ -103,6 +109,8 @@ class Job {
   async run() {
     let [turn, told] = [performance.now(), performance.now()]
     for await (const done of this.checkedPieces()) {
+      // (a job may have been stopped before the module was loaded)
+      if (this.isStopped) return
       this.done = done
       if (performance.now() - turn < TURN) continue
       if (performance.now() - told > TELLING) {
@@ -168,11 +176,11 @@ class Job {
 /** Begins a job in place of the one before, and tells the page how it ended. */
 async function checkAsked(asked) {
   if (job) job.isStopped = true
-  let mine
+  // (what the page sends while the module loads is about this one)
+  const mine = job = new Job(asked)
   try {
-    const urlcheck = await loading
-    mine = job = new Job(urlcheck, asked)
-    await mine.run()
+    mine.begin(await loading)
+    if (!mine.isStopped) await mine.run()
     mine.tell('done', { isStopped: mine.isStopped })
   } catch (error) {
     const { rule, place, message } = error
