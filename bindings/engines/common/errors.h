@@ -11,13 +11,26 @@ enum { ERROR_ROOM = 1024, ADVICE_ROOM = 512 };
 
 #define NO_PROFILE "unrecognized profile: valid profiles are " PROFILE_NAMES
 
-/* The error for a base that is refused. */
-static inline const char *base_error(const request *request, urlcheck_finding found, char said[ERROR_ROOM]) {
+/* How a call of the library has ended: with an answer, without memory for it, or with an error. */
+typedef enum end { ANSWERED, WITHOUT_MEMORY, FAILED } end;
+
+/* How a call has ended, and what its error is: that the base is refused, or a verdict that this extension doesn't know. */
+static inline end end_of(const request *request, urlcheck_finding found, char said[ERROR_ROOM]) {
     char name[NAME_ROOM], message[MESSAGE_ROOM];
 
-    snprintf(said, ERROR_ROOM, "invalid base URL: %s (rule %s at place %zu of the base)",
-             base_message(request, found, message), rule_name(found.rule, name), found.place + 1);
-    return said;
+    switch (found.verdict) {
+        case URLCHECK_VALID:
+        case URLCHECK_REFUSED:
+        case URLCHECK_NO_UTF8:
+        case URLCHECK_MENDED: return ANSWERED;
+        case URLCHECK_MEMORY: return WITHOUT_MEMORY;
+        case URLCHECK_BASE_REFUSED:
+        case URLCHECK_BASE_NO_UTF8:
+            snprintf(said, ERROR_ROOM, "invalid base URL: %s (rule %s at place %zu of the base)",
+                     base_message(request, found, message), rule_name(found.rule, name), found.place + 1);
+            return FAILED;
+        default: snprintf(said, ERROR_ROOM, "the library for urlcheck answers %u", (unsigned)found.verdict); return FAILED;
+    }
 }
 
 /* What is said before a mended text. */

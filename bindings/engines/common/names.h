@@ -23,8 +23,13 @@ static inline int profile_number(const char *name, size_t length) {
 
 /* The name of the rule that a refused text violates. Bytes that aren't UTF-8 violate none, and have a name of their own. */
 static inline const char *rule_name(uint32_t rule, char name[NAME_ROOM]) {
+    size_t length;
+
     if (rule == 0) return "no-utf8";
-    name[urlcheck_text(URLCHECK_RULE_NAME, rule, (uint8_t *)name, NAME_ROOM - 1)] = 0;
+    length = urlcheck_text(URLCHECK_RULE_NAME, rule, (uint8_t *)name, NAME_ROOM - 1);
+    /* (a later library may have a longer name, of which nothing is written) */
+    if (length >= NAME_ROOM) return "unknown";
+    name[length] = 0;
     return name;
 }
 

@@ -13,11 +13,11 @@ typedef struct slice {
     size_t length;
 } slice;
 
-/* What a call asks. If the url is checked alone, the base's bytes and `prepared` are null. */
+/* What a call asks. If the url is checked by itself, the base's bytes and `prepared` are null. */
 typedef struct request {
     slice url;
     slice base;
-    const urlcheck_base *prepared; /* the base, checked by the profile */
+    const urlcheck_base *prepared; /* the base, checked under the profile */
     urlcheck_base own;             /* what `prepared` points to if nothing else holds it */
     uint32_t profile;
 } request;
@@ -46,7 +46,7 @@ static inline urlcheck_mended mend_request(const request *request, uint8_t *out,
     return urlcheck_mend(url.bytes, url.length, request->profile, base.bytes, base.length, out, room);
 }
 
-/* A text that is made of the url: a valid one in its place, or that of its URL record, whose kind is 0. */
+/* A text that is made of the url: a valid one in its place, or the text of its URL record, whose kind is 0. */
 static inline urlcheck_mended write_request(const request *request, int mends, uint8_t *out, size_t room) {
     slice url = request->url, base = request->base;
     urlcheck_mended answer = {{0, 0, 0, 0}, 0, 0, 0};
@@ -72,7 +72,11 @@ enum { MESSAGE_ROOM = 256 };
 
 /* The sentence of a rule, which knows no text. */
 static inline const char *rule_sentence(uint32_t rule, char message[MESSAGE_ROOM]) {
-    message[urlcheck_text(URLCHECK_RULE_SENTENCE, rule, (uint8_t *)message, MESSAGE_ROOM - 1)] = 0;
+    size_t length = urlcheck_text(URLCHECK_RULE_SENTENCE, rule, (uint8_t *)message, MESSAGE_ROOM - 1);
+
+    /* (a later library may have a longer sentence, of which nothing is written) */
+    if (length >= MESSAGE_ROOM) return "it is not a valid URL string";
+    message[length] = 0;
     return message;
 }
 
@@ -80,11 +84,12 @@ static inline const char *rule_sentence(uint32_t rule, char message[MESSAGE_ROOM
  * What is wrong with a text at a place by a rule; if there is no memory for that, the sentence of the rule. Of bytes
  * that aren't UTF-8 no rule says anything.
  */
-static inline const char *message_on(slice text, uint32_t profile, urlcheck_finding found, char message[MESSAGE_ROOM]) {
+static inline const char *message_on(slice text, uint32_t profile, const urlcheck_base *base, urlcheck_finding found,
+                                     char message[MESSAGE_ROOM]) {
     urlcheck_written written;
 
     if (found.rule == 0) return "the bytes from here on are not UTF-8";
-    written = urlcheck_message(text.bytes, text.length, profile, URLCHECK_WORDING_SQL, found.rule, found.place,
+    written = urlcheck_message(text.bytes, text.length, profile, base, URLCHECK_WORDING_SQL, found.rule, found.place,
                                (uint8_t *)message, MESSAGE_ROOM - 1);
     if (written.found.verdict != URLCHECK_DONE || written.length >= MESSAGE_ROOM)
         return rule_sentence(found.rule, message);
@@ -94,7 +99,7 @@ static inline const char *message_on(slice text, uint32_t profile, urlcheck_find
 
 /* What is wrong with the url at its first fault. */
 static inline const char *url_message(const request *request, urlcheck_finding found, char message[MESSAGE_ROOM]) {
-    return message_on(request->url, request->profile, found, message);
+    return message_on(request->url, request->profile, request->prepared, found, message);
 }
 
 /* A message takes time by the length of its text, so all faults of a longer one would take the square of that. */
@@ -108,10 +113,10 @@ static inline const char *fault_message(const request *request, urlcheck_fault f
     return url_message(request, found, message);
 }
 
-/* Why the base is refused. (It is checked alone, so the sentence of `no-scheme`, which speaks of a base, isn't meant.) */
+/* Why the base is refused. (It has no base, so the sentence of `no-scheme`, which speaks of one, isn't meant.) */
 static inline const char *base_message(const request *request, urlcheck_finding found, char message[MESSAGE_ROOM]) {
     if (found.rule == URLCHECK_NO_SCHEME) return "it has no scheme";
-    return message_on(request->base, request->profile, found, message);
+    return message_on(request->base, request->profile, NULL, found, message);
 }
 
 #endif

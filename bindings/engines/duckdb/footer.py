@@ -1,4 +1,4 @@
-"""Puts DuckDB's footer of metadata after a shared object: footer.py OBJECT OUT VERSION PLATFORM. (Its layout is that of DuckDB's
+"""Puts DuckDB's footer of metadata after a shared object: footer.py OBJECT OUT VERSION PLATFORM. (It is laid out as by DuckDB's
 append_extension_metadata: a WebAssembly section that holds eight fields of 32 bytes, the last one first, and no signature.)"""
 
 import sys

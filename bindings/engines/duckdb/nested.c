@@ -92,7 +92,7 @@ static urlcheck_fault *list_faults(const request *request, urlcheck_fault_count 
     return list;
 }
 
-/* Has room after the elements of the rows before for those of a row: false if there is no memory. */
+/* Makes room for the elements of one more row: false if there is no memory. */
 static bool add_elements(cell out, idx_t count, idx_t *first) {
     duckdb_list_entry *entry = (duckdb_list_entry *)duckdb_vector_get_data(out.column) + out.row;
 

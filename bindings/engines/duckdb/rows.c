@@ -30,7 +30,7 @@ static bool is_same(slice one, slice other) {
     return one.length == other.length && memcmp(one.bytes, other.bytes, one.length) == 0;
 }
 
-/* Checks the base, unless it is that of the row before, under the same profile. */
+/* Checks the base, unless the row before has the same base and profile. */
 static void hold_base(request *request, slice base, uint32_t profile) {
     bool is_held = request->prepared && request->own.profile == profile && is_same(request->base, base);
 
@@ -54,7 +54,7 @@ static bool read_row(const column columns[3], idx_t row, request *request, const
     if (read_text(&columns[1], row, &base))
         hold_base(request, base, request->profile);
     else
-        request->base.bytes = NULL, request->prepared = NULL;
+        request->base = (slice){NULL, 0}, request->prepared = NULL;
     return true;
 }
 
@@ -66,16 +66,10 @@ bool stops_without_memory(duckdb_function_info call) {
 bool stops(duckdb_function_info call, const request *request, urlcheck_finding found) {
     char said[ERROR_ROOM];
 
-    switch (found.verdict) {
-        case URLCHECK_VALID:
-        case URLCHECK_REFUSED:
-        case URLCHECK_NO_UTF8:
-        case URLCHECK_MENDED: return false;
-        case URLCHECK_BASE_REFUSED:
-        case URLCHECK_BASE_NO_UTF8:
-            duckdb_scalar_function_set_error(call, base_error(request, found, said));
-            return true;
-        default: return stops_without_memory(call);
+    switch (end_of(request, found, said)) {
+        case ANSWERED: return false;
+        case WITHOUT_MEMORY: return stops_without_memory(call);
+        default: duckdb_scalar_function_set_error(call, said); return true;
     }
 }
 

@@ -101,7 +101,7 @@ static uint32_t profile_of(text *argument) {
     return (uint32_t)number;
 }
 
-/* The base, checked again if it isn't that of the last call from the same place. */
+/* The base, checked again unless the last call from the same place had it. */
 static const urlcheck_base *kept_base(kept *kept, slice base, uint32_t profile, MemoryContext context) {
     bool is_kept = kept->text.bytes != NULL && kept->text.length == base.length && kept->base.profile == profile &&
                    memcmp(kept->text.bytes, base.bytes, base.length) == 0;

@@ -11,7 +11,7 @@
 
 /*
  * Reads the arguments, as texts in UTF-8, whatever the database's encoding is: false if the url is NULL. A base that is
- * NULL is none, and a profile that is NULL is the standard one. If `keeps` is set, the base is kept in fn_extra for the
+ * NULL is left out, and a profile that is NULL is the standard one. If `keeps` is set, the base is kept in fn_extra for the
  * next call from the same place.
  */
 bool read_request(FunctionCallInfo fcinfo, request *request, bool keeps);

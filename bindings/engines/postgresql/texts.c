@@ -1,4 +1,4 @@
-/* Texts that are made of a url: that of its URL record, a valid one in its place, and the list of its faults. */
+/* Texts that are made of a url: the text of its URL record, a valid one in its place, and the list of its faults. */
 #include "arguments.h"
 
 #include "access/htup_details.h"

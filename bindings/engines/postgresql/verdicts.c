@@ -50,7 +50,7 @@ static char *shown(slice url, urlcheck_finding found) {
     return shown_around(found.verdict == URLCHECK_NO_UTF8 ? front : url, found.byte_place);
 }
 
-/* What is said before a mended text: that it is a text in the url's place, if it is offered, and else what it is. */
+/* What is said before a mended text: that it is a text in the url's place if it is offered, otherwise what it is. */
 static const char *hint_before(urlcheck_mended answer) {
     if (!answer.offered) return psprintf("Something else may be meant; %s", kind_phrase(answer.kind));
     return answer.kind == URLCHECK_CHANGED ? "A valid text in its place (it may denote another URL): "
@@ -161,7 +161,7 @@ static void put_refusal(const request *request, urlcheck_finding found, Datum *v
     put(values, nulls, MESSAGE, PointerGetDatum(message_text(request, found)));
 }
 
-/* The columns of a valid url: those of its parts that it has. */
+/* The columns of a valid url: the parts that it has. */
 static void put_parts(slice url, const urlcheck_spans *parts, Datum *values, bool *nulls) {
     for (int number = 0; number < PART_COUNT; number++) {
         urlcheck_span span = part_of(parts, number);

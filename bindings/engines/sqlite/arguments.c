@@ -5,9 +5,12 @@ SQLITE_EXTENSION_INIT3
 
 /* The bytes of a value that isn't NULL: false if there is no memory to read it as a text. */
 static int read_text(slice *text, sqlite3_value *value) {
+    /* (an empty BLOB has no bytes either, and the type is asked before the value is read as a text) */
+    int is_blob = sqlite3_value_type(value) == SQLITE_BLOB;
+
     text->bytes = sqlite3_value_text(value);
     text->length = (size_t)sqlite3_value_bytes(value);
-    if (text->length == 0) text->bytes = (const uint8_t *)"";
+    if (text->bytes == NULL && is_blob && text->length == 0) text->bytes = (const uint8_t *)"";
     return text->bytes != NULL;
 }
 
@@ -48,16 +51,12 @@ reading read_request(request *request, sqlite3_value *url, sqlite3_value *base, 
 int is_checked(const request *request, urlcheck_finding found, char **message, int *code) {
     char said[ERROR_ROOM];
 
-    switch (found.verdict) {
-        case URLCHECK_VALID:
-        case URLCHECK_REFUSED:
-        case URLCHECK_NO_UTF8:
-        case URLCHECK_MENDED: return 1;
-        case URLCHECK_BASE_REFUSED:
-        case URLCHECK_BASE_NO_UTF8:
+    switch (end_of(request, found, said)) {
+        case ANSWERED: return 1;
+        case WITHOUT_MEMORY: *code = SQLITE_NOMEM; return 0;
+        default:
             *code = SQLITE_ERROR;
-            *message = sqlite3_mprintf("%s", base_error(request, found, said));
+            *message = sqlite3_mprintf("%s", said);
             return 0;
-        default: *code = SQLITE_NOMEM; return 0;
     }
 }

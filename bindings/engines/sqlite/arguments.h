@@ -10,8 +10,9 @@
 typedef enum reading { READ, READ_NULL, READ_NO_PROFILE, READ_NO_MEMORY } reading;
 
 /*
- * Reads the arguments, of which each may be null if it isn't given. A base that is NULL is none, a profile that is NULL
- * the standard one. The base is checked unless `held` is what it was checked to be before, under the same profile.
+ * Reads the arguments, of which each may be null if it isn't given. A base that is NULL isn't one, and a profile that
+ * is NULL is the standard one. The base is checked unless `held` is what it was checked to be before, under the same
+ * profile.
  */
 reading read_request(request *request, sqlite3_value *url, sqlite3_value *base, sqlite3_value *profile,
                      const urlcheck_base *held);

@@ -21,7 +21,7 @@ typedef struct table {
 typedef struct cursor {
     sqlite3_vtab_cursor head;
     sqlite3_value *arguments[ARGUMENTS]; /* copies, null if not given */
-    request request;                     /* whose bytes are those of the copies */
+    request request;                     /* whose bytes are in the copies */
     urlcheck_answer answer;              /* of url_check */
     urlcheck_fault *faults;              /* of url_faults */
     size_t rows;

@@ -6,6 +6,7 @@ SELECT url_is_valid('http://h/') AS a, url_is_valid('http://h/a b') AS b, url_is
 SELECT url_rule(u), url_place(u), url_message(u) FROM (SELECT 'http://münchen.de/ü b' AS u);
 SELECT url_scheme(u), url_host(u), url_port(u), url_path(u), url_query(u), url_fragment(u) FROM (SELECT 'https://h:80/a?q#f' AS u);
 SELECT url_resolve('HTTP://EXAMPLE.com:80/a/../ü'), url_resolve('../x', 'http://h/a/b'), length(url_resolve('http://h/' || repeat('x', 2000)));
+SELECT url_resolve(r, b), url_mend(r, b) FROM (VALUES ('../x', 'http://h/a/b'), ('y', NULL), ('../z', 'http://h/a/b')) v(r, b);
 SELECT p, url_is_valid('//a_b/', 'http://h/', p) FROM (VALUES ('standard'), ('wide'), ('standard'), (NULL)) v(p);
 SELECT b, url_is_valid('x', b) FROM (VALUES ('http://h/'), ('mailto:xy'), ('http://h/'), (NULL)) v(b);
 SELECT url_require('http://h/'), url_require(NULL), url_require('../x', 'http://h/'), regexp_full_match(urlcheck_version(), '\d+\.\d+\.\d+');

@@ -8,7 +8,7 @@ EXPLAIN (COSTS OFF) SELECT id FROM many WHERE url_host(url) = 'h7.example';
 SELECT count(*) FROM many WHERE url_host(url) = 'h7.example';
 EXPLAIN (COSTS OFF) SELECT id FROM many WHERE NOT url_is_valid(url);
 SELECT id, url_rule(url) FROM many WHERE NOT url_is_valid(url);
--- workers that are launched, and not planned alone
+-- workers that are launched, and not only planned
 SET parallel_setup_cost = 0;
 SET parallel_tuple_cost = 0;
 SET min_parallel_table_scan_size = 0;

@@ -30,7 +30,7 @@ INSERT INTO register (written) VALUES ('http://h/b');
 INSERT INTO register (written) VALUES ('http://h:80/b'), ('http://h/%64') ON CONFLICT (url) DO NOTHING;
 INSERT INTO register (written) VALUES ('http://h/./c') ON CONFLICT (url) DO UPDATE SET written = excluded.written;
 SELECT * FROM register ORDER BY url;
--- the version beside each row: what another one made is checked and made again
+-- the version in each row: what another one made is checked and made again
 ALTER TABLE register ADD COLUMN made_by text NOT NULL DEFAULT urlcheck_version();
 UPDATE register SET made_by = '0.1.0' WHERE url = 'http://h/c';
 UPDATE register SET written = written, made_by = DEFAULT WHERE made_by <> urlcheck_version() RETURNING written, url;

@@ -1,6 +1,6 @@
 -- What the functions say of a url: the verdict, the first fault, the parts. Then bad arguments.
 CREATE EXTENSION urlcheck;
--- names of each kind, and references, which are valid against a base alone
+-- names of each kind, and references, which are valid only against a base
 SELECT u, url_is_valid(u) FROM (VALUES ('https://example.com/'), ('https://example.com/a b'), ('../x'), (''),
     ('http://münchen.de/ü'), ('http://a_b.de/'), ('urn:isbn:0451450523'), ('http://[::1]:80/'), ('http://h:65536/')) v(u);
 SELECT u, url_is_valid(u, 'http://h/a') FROM (VALUES ('../x'), ('//'), ('#f'), (''), ('http://other/')) v(u);
