@@ -1,5 +1,5 @@
-// What calls from JavaScript cost beside the engine's own URL, in one run: the least of so many rounds, each of them some
-// passes over the links of standard input, one a line, and over what is after their authorities, which is checked
+// What calls from JavaScript cost, compared with the engine's own URL, in one run: the least of so many rounds, each of them some
+// passes over the links of standard input, one per line, and over what is after their authorities, which is checked
 // against a base. It fails when a call takes more than so many times what another one takes, or where a valid text
 // doesn't parse. See bench/browser.sh. Usage: node bench/browser.mjs FOLDER ROUNDS <LINKS, FOLDER being one that
 // tools/build-page has made.
@@ -29,7 +29,7 @@ function hrefOf(text) {
   }
 }
 
-/** The calls on links, and those on references; in each group all checks say the same of a text. */
+/** The calls on links, and the calls on references; in each group all checks say the same about a text. */
 const groups = [
   [links, {
     'URL.canParse': text => URL.canParse(text),

@@ -1,9 +1,9 @@
 #!/usr/bin/env bash
-# What calls from JavaScript cost beside the engine's own URL, under Node, the least of 15 rounds in one run. Of what
+# What calls from JavaScript cost, compared with the engine's own URL, under Node, the least of 15 rounds in one run. Compared with what
 # URL.canParse takes for a link of 70 code points isValid takes at most 1.2 times, check 1.4 times and a line of
 # checkMany 0.7 times; resolve takes at most 2 times what new URL does. Against a base a check takes at most 1.4 times as
 # long as canParse, and its text as a base at most 1.1 times what one that was checked before takes. LINKS is a file of
-# other links, one a line. It needs python3 and node, and builds the module unless a folder is given.
+# other links, one per line. It needs python3 and node, and builds the module unless a folder is given.
 # Usage: bench/browser.sh [FOLDER [ROUNDS]]
 set -euo pipefail
 top=$(dirname "$(dirname "$(realpath "$0")")")

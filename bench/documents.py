@@ -1,7 +1,7 @@
 #!/usr/bin/env python3
-"""bench/documents.py FOLDER..: holds the links that urlcheck.documents finds in HTML pages against those of lxml.
+"""bench/documents.py FOLDER..: compares the links that urlcheck.documents finds in HTML pages with the links that lxml finds.
 
-Prints each page whose links differ, with those that one of the two found alone. Each link that stands in the source as
+Prints each page whose links differ, with the links that only one of the two found. Each link that stands in the source as
 it is has to begin at its line and column. Then how many pages a minute were read. It needs python3-lxml, and the
 package with its library on PYTHONPATH. The status is 0 where nothing differs, 1 where something does.
 """
@@ -42,7 +42,7 @@ def by_lxml(data):
 
 
 def by_lines(text):
-    """The lines of a text, cut at line feeds alone."""
+    """The lines of a text, cut only at line feeds."""
     return text.split("\n")
 
 

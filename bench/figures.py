@@ -1,5 +1,6 @@
 #!/usr/bin/env python3
-"""The figures that the pages have from bench/verdicts.sh: read from the outputs that are stored in bench/verdicts, by bench/kinds.
+"""The figures that the pages have from bench/verdicts.sh, read from the outputs that are stored in bench/verdicts, by bench/kinds;
+and what lines may cost, from tests/runs/costs.txt.
 
     bench/figures.py [TOP]            sees that README.md and docs/SPEED.md have them; 1 where one is another
     bench/figures.py --write [TOP]    writes them there
@@ -73,8 +74,13 @@ TEXT_HEAD = "| Texts | Ada | resolve | ratio | record | ratio |"
 C_HEAD = "| Texts | from C | Ada | ratio |"
 # The sentences with figures: the page, and the words with the names of figures in braces.
 SENTENCES = (
-    ("README.md", "costs {mixed} times the instructions of Ada's `can_parse`"),
+    ("README.md", "costs {mixed} times the instructions of Ada's `can_parse`, and {c} times if called from C."),
     ("README.md", "On each of {kinds} kinds of texts it costs at most {most} times as many."),
+    ("docs/SPEED.md", "| Rattle | `check` of a link, as in documents | `can_parse` of Ada 3.4.4, by instructions | {mixed} |"),
+    ("docs/SPEED.md", "| C | the same | the same | {c} |"),
+    ("docs/SPEED.md", "A plain link takes at most {plain_lint} in `lint`, with 5 % of slack."),
+    ("docs/SPEED.md", "{code_point_lint} in `gnu`, {code_point_caret} in `caret`, {code_point_json} in JSON and {code_point_sarif} in SARIF."),
+    ("docs/SPEED.md", "which takes {code_point_mend} in `mend`."),
 )
 
 
@@ -90,6 +96,13 @@ def stored(top: pathlib.Path) -> Costs:
             text = file.read_text(encoding="utf-8")
             costs[kind] = {call: float(cost) for call, cost in re.findall(r"^(\w+): ([\d.]+) instructions", text, re.M)}
     return costs
+
+
+def bounds(top: pathlib.Path) -> Dict[str, str]:
+    """What a line of each kind may cost, by the kind and by the format or else the command."""
+    lines = (top / "tests" / "runs" / "costs.txt").read_text(encoding="utf-8").splitlines()
+    rows = [line.split() for line in lines if line and not line.startswith("#")]
+    return {"{}_{}".format(kind, [it for it in words if not it.startswith("-")][-1]): whole(float(most)) for kind, most, *words in rows}
 
 
 def whole(cost: float) -> str:
@@ -131,7 +144,8 @@ def named(costs: Costs) -> Dict[str, str]:
     """The figures of the sentences."""
     checks = [kind for kind, cost in costs.items() if "check" in cost]
     most = max(costs[kind]["check"] / costs[kind]["ada"] for kind in checks)
-    return {"mixed": ratio(costs, "mixed", "check"), "kinds": str(len(checks)), "most": "{:.2f}".format(most)}
+    mixed, c = ratio(costs, "mixed", "check"), ratio(costs, "c_mixed", "from_c")
+    return {"mixed": mixed, "c": c, "kinds": str(len(checks)), "most": "{:.2f}".format(most)}
 
 
 def with_tables(text: str, wanted: Dict[str, Dict[str, str]]) -> Tuple[str, int, List[str]]:
@@ -182,7 +196,7 @@ def main() -> int:
         sys.exit(__doc__)
     top = pathlib.Path(rest[0]) if rest else pathlib.Path(__file__).resolve().parent.parent
     costs = stored(top)
-    figures = named(costs)
+    figures = {**named(costs), **bounds(top)}
     pages = {page: (top / page).read_text(encoding="utf-8") for page in ("README.md", "docs/SPEED.md")}
     wrong: List[str] = []
     for page, sentence in SENTENCES:

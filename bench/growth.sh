@@ -96,7 +96,7 @@ each() { echo "$3 faults, refused $1 $2, refused $(($1 + $3 - 1)) $2"; }
 # one PLACE RULE : one fault
 one() { each "$1" "$2" 1; }
 
-# wanted SHAPE COUNT : what is said of a text of that shape: how many faults it has, the first of them and the last
+# wanted SHAPE COUNT : the report on a text of that shape: how many faults it has, the first of them and the last
 wanted() {
     local count=$2 times
     times=$((count / $(length "${1#*+}")))
@@ -157,7 +157,7 @@ instructions() {
     sed -n 's/.*Collected : //p' "$room/err"
 }
 
-# the text that is measured, and what its reading alone costs, are left in text, whole and reading
+# the text that is measured, and what only reading it costs, are left in text, whole and reading
 
 # of_check SHAPE COUNT : the cost of `check` on the text, which says whether it is valid
 of_check() {
@@ -261,7 +261,7 @@ for part in path host port query reference; do
     for unit in "${units[@]}"; do shapes+=("$part+$unit"); done
 done
 
-# line_counts SHAPE : the lengths of a line of that shape, up to that of 65,536 bytes
+# line_counts SHAPE : the lengths of a line of that shape, up to 65,536 bytes
 line_counts() {
     case $1 in
         *é | *beyond_ascii) echo 327 3270 32700 ;;

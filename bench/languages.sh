@@ -1,7 +1,7 @@
 #!/usr/bin/env bash
-# What a call costs from Rust, Go, Java and C++ beside the language's own parser, over the same mixed links in one run:
+# What a call costs from Rust, Go, Java and C++, compared with the language's own parser, over the same mixed links in one run:
 # the nanoseconds a link of the fastest of some rounds, and their ratio. The peers are the crate `url` (of Debian's
-# librust-url-dev), net/url and java.net.URI; urlcheck.hpp is beside urlcheck.h. What isn't installed is left out, with
+# librust-url-dev), net/url and java.net.URI; urlcheck.hpp is compared with urlcheck.h. What isn't installed is left out, with
 # a line. It fails when a call accepts another number of links than are known to be valid. LIBRARY may name a folder
 # that tools/build-library wrote.
 # Usage: bench/languages.sh [--count COUNT] [--rounds ROUNDS] [--seed SEED]

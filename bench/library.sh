@@ -1,5 +1,5 @@
 #!/usr/bin/env bash
-# What a call from C costs beside Ada's can_parse: the kinds of bench/kinds whose call is from_c, by bench/verdicts.sh, which
+# What a call from C costs, compared with Ada's can_parse: the kinds of bench/kinds whose call is from_c, by bench/verdicts.sh, which
 # takes the same words and fails when it says so. A call of `urlcheck_check` checks a text alone, against a base that both
 # sides keep, or against one that is prepared from its text for that call. It also sees that the bytes are UTF-8, and lays
 # out the places of the parts. LIBRARY may name a folder that tools/build-library wrote.

@@ -1,5 +1,5 @@
-"""Writes so many made links of a kind, one a line, from a seed, and on standard error how many of them are valid:
-python3 bench/links.py COUNT SEED [KIND]. The kinds are those of MAKERS below; with none the list is mixed, by SHARES.
+"""Writes so many made links of a kind, one per line, from a seed, and on standard error how many of them are valid:
+python3 bench/links.py COUNT SEED [KIND]. The kinds are in MAKERS below; with none the list is mixed, by SHARES.
 Each of own_base is two lines, a base and a reference. Against which base and by which profile a kind is checked stands
 in bench/kinds."""
 import ipaddress

@@ -1,12 +1,12 @@
 #!/usr/bin/env bash
-# Lists of mixed links: the processor time a line of `urlcheck links`, of the second parser alone (the crate
+# Lists of mixed links: the processor time a line of `urlcheck links`, of only the second parser (the crate
 # bench_second) and of `wc -l`, least of so many rounds with a run of each in turn, the start of each program taken off;
 # and the peak of resident memory of `urlcheck links` on 30,000 lines and on all. It wants that `urlcheck links` costs
-# at most 0.8 times the second parser alone, that a line of the long list costs what one of the short list costs within
+# at most 0.8 times what the second parser does by itself, that a line of the long list costs what one of the short list costs within
 # 10 %, and that its memory is the same on both, within 256 KiB, and below 10 MB. With --registry FOLDER also the time of
 # Rust's crate `url` with its validation errors counted, which reports on each line alike: `urlcheck links` is to cost at
 # most 0.75 of that. FOLDER has the sources of 2.5 or newer, as Debian's librust-url-dev has them. Against a base, on as
-# many references, `urlcheck links` is to cost at most 2.5 times the second parser alone. It fails when a program is
+# many references, `urlcheck links` is to cost at most 2.5 times what the second parser does by itself. It fails when a program is
 # missing, a figure is empty, an answer isn't the wanted one, or a bound is broken.
 # Usage: bench/links.sh [--seed SEED] [--count COUNT] [--rounds ROUNDS] [--program FILE] [--second FILE]
 #        [--registry FOLDER]
@@ -46,7 +46,7 @@ head -n $short "$room/long" >"$room/short"
 : >"$room/empty"
 python3 "$top/bench/links.py" "$count" "$seed" reference >"$room/references" 2>/dev/null
 
-# Of the links that bench/links.py makes those are refused that end in one of four texts, and those whose path begins
+# Links that bench/links.py makes are refused if they end in one of four texts, or if their path begins
 # with an empty segment; every other one is ok.
 refused='/(a b|a\|b|%zz|\[x\])$|^[A-Za-z]+://[^/]*//'
 

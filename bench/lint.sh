@@ -1,11 +1,10 @@
 #!/usr/bin/env bash
-# `urlcheck lint` on a list of a million mixed links, the whole process, beside a C++ program that reads lines and calls
+# `urlcheck lint` on a list of a million mixed links, the whole process, compared with a C++ program that reads lines and calls
 # Ada's can_parse: processor time, the least of so many rounds with a run of each in turn, or instructions by callgrind;
 # and the peak of resident memory of `urlcheck lint` on 10,000 lines and on all. It wants at most 0.5 times the cost of
 # the other, and memory that is the same on both lists, within 256 KiB, and below 10 MB. It fails when a program is
-# missing, a figure is empty, the counts aren't those that the list was made with, or a bound is broken. Last come
-# bench/refused_lines.sh, what a refused line takes beside a valid one, and bench/wrong_line.sh, what `lint --all` writes
-# and takes of the worst line.
+# missing, a figure is empty, the counts aren't those that the list was made with, or a bound is broken. Last comes
+# bench/wrong_line.sh, what `lint --all` writes and takes of the worst line.
 # Usage: bench/lint.sh --ada FOLDER [--seed SEED] [--count COUNT] [--rounds ROUNDS] [--by time|instructions]
 #        [--program FILE]
 set -euo pipefail
@@ -94,6 +93,5 @@ holds "${least[lint]} >= $count / 100 && ${least[ada]} >= $count / 100" 'a figur
 holds "$ratio <= 0.5 * 1.05" 'more than 0.5 times the other'
 holds "$peak_long <= $peak_short + 256 && $peak_short <= $peak_long + 256" 'the memory changes with the length'
 holds "$peak_short > 0 && $peak_long < 10000 && $peak_short < 10000" "the memory isn't below 10 MB"
-bash "$top/bench/refused_lines.sh" --seed "$seed" --program "$program" || failed=1
 bash "$top/bench/wrong_line.sh" --program "$program" || failed=1
 exit $failed

@@ -1,9 +1,9 @@
 #!/usr/bin/env python3
 """bench/mended.py PROGRAM [COUNT]: texts made by mutation, and what `mend` writes in their place.
 
-Each answer is compared with `check`: a mended text is accepted, and `valid` is answered exactly of an accepted text. Where
-Node is installed, its URL parser reads each text beside its mended one. Those that are called `same` and that it reads as
-two URLs are counted, with those among them that differ in the escapes of `^` alone, which older versions keep in a path.
+Each answer is compared with `check`: a mended text is accepted, and `valid` is answered exactly for an accepted text. If
+Node is installed, its URL parser reads each text and its mended one. Those that are called `same` and that it reads as
+two URLs are counted, with those among them that differ only in the escapes of `^`, which older versions keep in a path.
 """
 
 import json

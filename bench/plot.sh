@@ -1,9 +1,9 @@
 #!/usr/bin/env bash
 # Draws a bar plot of what bench/verdicts.sh gave by instructions: a bar for this checker and one for Ada for each kind of
-# bench/kinds. Ada's bars have one length, and the figures are instructions a text. The outputs are stored in
+# bench/kinds. Ada's bars have one length, and the figures are instructions per text. The outputs are stored in
 # bench/verdicts/KIND.txt, as the script printed them.
 #   bench/plot.sh                     draws docs/speed.svg from the stored outputs, on standard output
-#   bench/plot.sh --measure [FOLDER]  makes the outputs anew first, by Ada in FOLDER, else beside what Ada took when it
+#   bench/plot.sh --measure [FOLDER]  makes the outputs again first, with Ada in FOLDER, otherwise compared with what Ada took when it
 #                                     was measured (bench/verdicts/ada.stored); it takes some minutes
 # It fails when an output is missing, lacks a figure, or says that something failed.
 set -euo pipefail

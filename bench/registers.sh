@@ -1,5 +1,5 @@
 #!/usr/bin/env bash
-# What the checker costs inside PostgreSQL, SQLite, DuckDB and Python, beside no check and beside the pattern that people write,
+# What the checker costs inside PostgreSQL, SQLite, DuckDB and Python, compared with no check and with the pattern that people write,
 # in processor time over the same made links, each the least of three rounds. What isn't installed is left out, with a line. It fails when a COPY with a check costs more above
 # none than a fifth of what the pattern costs, or a call from Python takes longer than is wanted of it.
 # Usage: bench/registers.sh [COUNT [SEED]]. LIBRARY may name a folder that tools/build-library wrote.

@@ -1,8 +1,8 @@
 #!/usr/bin/env python3
-"""bench/silence.py PROGRAM [COUNT] [SEED]: the parser's profile beside a second reading of the Standard's parser.
+"""bench/silence.py PROGRAM [COUNT] [SEED]: the parser's profile compared with a second reading of the Standard's parser.
 
 Made texts, alone and against bases of each class, are checked by `urlcheck links --profile parser` and by the parser of
-bench/peers/standard.py, which was written from the Standard's text alone. Where that is silent the record's text has to
+bench/peers/standard.py, which was written only from the Standard's text. If that is silent, the record's text has to
 be the same, and else the program has to refuse. Node says what ToASCII makes of a domain beyond ASCII. Domains on which
 it answers otherwise than the program are named and left out: its tables are older, and it checks less of UTS #46.
 """

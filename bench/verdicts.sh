@@ -1,8 +1,8 @@
 #!/usr/bin/env bash
-# What this checker takes for texts of a kind, beside Ada and, where it is at hand, Rust's crate `url`. bench/kinds has
+# What this checker takes for texts of a kind, compared with Ada and, if it is at hand, Rust's crate `url`. bench/kinds has
 # the kinds: what is made, the call, the profile, the base and the bound, of which bench/bounds has the figure. `check`,
-# `check_alone` (alone), `is_valid` and a call from C (from_c) are beside Ada's can_parse, `resolve_serialized` (resolve)
-# and `resolve` with its record's text (record) beside Ada's parse with its href. Both sides keep the base, or read each
+# `check_alone` (alone), `is_valid` and a call from C (from_c) are compared with Ada's can_parse, `resolve_serialized` (resolve)
+# and `resolve` with its record's text (record) with Ada's parse with its href. Both sides keep the base, or read each
 # text's own. It prints the instructions a text by callgrind, or the least processor time of so many rounds with a run of
 # each in turn, reading taken off, and the ratios to Ada.
 # It fails when a figure is missing or below the floor, and where an answer isn't the wanted one: so many texts are
@@ -49,7 +49,7 @@ fi
 # library : the folder of the library for C, which is built where none is given
 library() {
     if [ -z "${LIBRARY:-}" ]; then
-        "$top/tools/build-library" "$room/library" >&2
+        "$top/tools/build-library" "$room/library" >&2 || return
         LIBRARY=$room/library
     fi
     echo "$LIBRARY"
@@ -63,7 +63,7 @@ if [ "$kind" = all ]; then
     cache=$room/counted
     mkdir "$cache"
     mapfile -t kinds < <(awk '!/^#/ { print $1 }' "$top/bench/kinds")
-    # shellcheck disable=SC2016 # (the variables are those of the shell that is started)
+    # shellcheck disable=SC2016 # (the shell that is started has the variables)
     printf '%s\n' "${kinds[@]}" | xargs -P "$jobs" -I KIND bash -c \
         'out=$1/KIND.txt; shift; bash "$0" "$@" --kind KIND </dev/null >"$out"' \
         "$0" "$store" "$@" ${ada:+--ada "$ada"} --cache "$cache" || failed=1

@@ -1,14 +1,14 @@
 #!/usr/bin/env bash
 # `urlcheck lint --all` on one line of 65,536 bytes of which each code point is wrong, in each format: what is written
 # has at most 100 MB, and the peak of resident memory is below 10 MB. It fails when a bound is broken, a status isn't
-# that of a refused line, a diagnostic is missing or no figure was taken.
+# right for a refused line, a diagnostic is missing or no figure was taken.
 # Usage: bench/wrong_line.sh [--program FILE]
 set -euo pipefail
 top=$(dirname "$(dirname "$(realpath "$0")")")
 program=$top/crates/urlcheck/out/urlcheck
 . "$top/bench/words.sh"
 words program -- "$@"
-[ -x "$program" ] || { echo "$program is no program: build its crate first (rt run)"; exit 2; }
+[ -x "$program" ] || { echo "$program isn't a program: build its crate first (rt run)"; exit 2; }
 for tool in grep head mkfifo sed tr wc; do
     command -v $tool >/dev/null || { echo "bench/wrong_line.sh needs $tool"; exit 2; }
 done

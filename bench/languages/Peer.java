@@ -10,7 +10,7 @@ import java.util.List;
 import java.util.Locale;
 import java.util.function.Predicate;
 
-/** The package beside java.net.URI over the lines of a file: a row for each call. */
+/** The package and java.net.URI over the lines of a file: a row for each call. */
 public final class Peer {
     private Peer() {
     }

@@ -1,4 +1,4 @@
-// urlcheck.hpp beside urlcheck.h over the lines of a file: a row for each call.
+// urlcheck.hpp and urlcheck.h over the lines of a file: a row for each call.
 #include <chrono>
 #include <cstdio>
 #include <cstdlib>

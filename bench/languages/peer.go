@@ -1,4 +1,4 @@
-// The package urlcheck beside net/url over the lines of a file: a row for each call.
+// The package urlcheck and net/url over the lines of a file: a row for each call.
 package main
 
 import (

@@ -1,4 +1,4 @@
-//! The crate `urlcheck` beside the crate `url` over the lines of a file: a row for each call.
+//! The crates `urlcheck` and `url` over the lines of a file: a row for each call.
 use std::cell::Cell;
 use std::env;
 use std::fs;

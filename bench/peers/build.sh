@@ -1,5 +1,5 @@
 # shellcheck shell=bash
-# Sourced by bench/verdicts.sh and bench/links.sh: how the drivers of their peers and that of the library for C are
+# Sourced by bench/verdicts.sh and bench/links.sh: how the drivers of their peers and of the library for C are
 # built. `$top` is the top of this repository, and `$registry` a folder with sources of crates.
 registry=/usr/share/cargo/registry
 

@@ -1,6 +1,6 @@
 /* Checks the lines of standard input by the library for C, as crates/bench_check does it: MODE ROUNDS PROFILE BASE, by
-   the standard profile alone. Both find the lines before they check the first. `read` does no more, `check` checks each
-   line, and `verdicts` writes `1` or `0` for each. A base is prepared once. Where it is `own`, each text stands after a
+   only under the standard profile. Both find the lines before they check the first. `read` does no more, `check` checks each
+   line, and `verdicts` writes `1` or `0` for each. A base is prepared once. If it is `own`, each text comes after a
    line with its base, which is prepared for that text alone. */
 #include "urlcheck.h"
 
