@@ -27,6 +27,18 @@ as_nobody() {
     "${other[@]}" "$@"
 }
 
+# to_nobody COMMAND.. : runs a command whose output is a pipe that nobody reads any more. Its status is left in $room/status, and what it
+# says in $room/err.
+to_nobody() {
+    rm -f "$room/unread"
+    mkfifo "$room/unread"
+    # (one end is opened with the other, which then stays by itself)
+    exec 7<>"$room/unread" 8>"$room/unread" 7<&-
+    "$@" >&8 2>"$room/err" 8>&-
+    echo $? >"$room/status"
+    exec 8>&-
+}
+
 # answers_at_once WHAT LINE ANSWER LAST WORD.. : through pipes that live, each of three lines is answered before the next
 # one is written, and LAST is said once the input ends. `N` in LINE and ANSWER is the line's number.
 answers_at_once() {
@@ -39,13 +51,13 @@ answers_at_once() {
     for number in 1 2 3; do
         echo "${line//N/$number}" >&8
         said=
-        read -r -t 5 said <&9
+        read -r -t 120 said <&9
         count=$((count + 1))
         if [ "$said" != "${answer//N/$number}" ]; then fail "$what: it answered $said"; fi
     done
     exec 8>&-
     said=
-    read -r -t 5 said <&9
+    read -r -t 120 said <&9
     exec 9<&-
     wait $asked
     ends_with 0 $? '' "$what"
@@ -53,12 +65,23 @@ answers_at_once() {
     rm -f "$room/ask" "$room/answer"
 }
 
-# without_sentences : takes what `check` says of a text that it refuses out of $room/err: a sentence for each place that it
-# printed, in their order, and what to write. tests/runs/words.cases.sh compares the words.
-without_sentences() {
-    sed -n 's/^urlcheck: at place \([0-9]*\): ..*/refused \1/p' "$room/err" | cmp -s - <(sed 's/ [a-z0-9-]*$//' "$room/out") ||
-        fail "check: it wrote $(cat "$room/out") and said $(cat "$room/err")"
-    sed -i -e '/^urlcheck: at place [0-9]*: /d' -e '/^urlcheck: write /d' "$room/err"
+# at_terminal INPUT WORD.. : a run with these words on the bytes of the file INPUT, whose standard error is a terminal. It goes
+# to $room/err, without the CR that a terminal writes before each LF.
+at_terminal() {
+    local input=$1 words
+    shift
+    printf -v words '%q ' "$program" "$@"
+    (cd "$room" && SHELL=$BASH script -qec "$words <$input >$room/out" /dev/null) </dev/null | tr -d '\r' >"$room/err"
+    return "${PIPESTATUS[0]}"
+}
+
+# wrote TEXT FILE : whether a file has this text, read with escapes. A line of TEXT with `error: [RULE]` stands for each that says
+# something before the rule: sentences.cases.sh has the sentences.
+wrote() {
+    local any='NR == FNR { if (/: error: \[/) any[FNR]; next } FNR in any { sub(/: error: .+ \[/, ": error: [") } { print }'
+    printf '%b' "$1" >"$room/text"
+    cmp -s "$room/text" "$2" ||
+        { [ -z "$(tail -c 1 "$2")" ] && LC_ALL=C awk "$any" "$room/text" "$2" | cmp -s "$room/text" -; }
 }
 
 # expect STATUS STDOUT STDERR WORD.. : a run with these words ends so. STDOUT and STDERR are read with escapes.
@@ -69,8 +92,7 @@ expect() {
     ended=$?
     count=$((count + 1))
     if [ "$ended" != "$status" ]; then fail "$*: status $ended, and not $status"; fi
-    if ! printf '%b' "$stdout" | cmp -s - "$room/out"; then fail "$*: it wrote: $(cat "$room/out")"; fi
-    [ "$status $1" != '1 check' ] || without_sentences
+    if ! wrote "$stdout" "$room/out"; then fail "$*: it wrote: $(cat "$room/out")"; fi
     if ! printf '%b' "$stderr" | cmp -s - "$room/err"; then fail "$*: on standard error: $(cat "$room/err")"; fi
 }
 
@@ -89,7 +111,7 @@ on_list() {
     "$program" "$command" "$@" <"$room/list" >"$room/out" 2>"$room/err"
     ended=$?
     ends_with "$status" $ended "$stderr" "$command $*"
-    if ! printf '%b' "$stdout" | cmp -s - "$room/out"; then fail "$command $*: it wrote: $(cat "$room/out")"; fi
+    if ! wrote "$stdout" "$room/out"; then fail "$command $*: it wrote: $(cat "$room/out")"; fi
 }
 
 # lacks WHAT : whether the system lacks it
@@ -106,7 +128,7 @@ has() {
     return 1
 }
 
-# is_posix NAME : whether POSIX alone has files of this name. Windows has none with these code points, or a space at the end.
+# is_posix NAME : whether only POSIX has files of this name. Windows has none with these code points, or a space at the end.
 is_posix() {
     case $1 in *' ' | *[:*?\\\<\>\"]* | *[[:cntrl:]]*) ;; *) return 1 ;; esac
 }
@@ -114,7 +136,7 @@ is_posix() {
 # has_file NAME : whether the system has files of this name. Else a run is left out.
 has_file() { ! is_posix "$1" || has posix_names 1; }
 
-# no_base PLACE RULE SENTENCE : what is said on standard error of a base that this rule refuses
+# no_base PLACE RULE SENTENCE : the line on standard error about a base that this rule refuses
 no_base() { printf '%s' "urlcheck: the base is refused at place $1: $3\\nbase refused $1 $2\\n"; }
 
 # What is said of an output on which no space is left, of one that is closed, of an input that is a folder, and of one

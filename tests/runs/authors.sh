@@ -5,19 +5,18 @@
 . "$(dirname "$(realpath "$0")")/start.sh"
 cd "$top"
 needs authors python3
-library=${LIBRARY:-$room/library}
-[ -n "${LIBRARY:-}" ] || tools/build-library "$library" >"$room/said" 2>&1 || { cat "$room/said"; exit 1; }
+with_library
 export PYTHONPATH=$library/python PYTHONDONTWRITEBYTECODE=1 TERM=xterm
 failed=0 left=0
 
-# left_out WHAT WHY : what isn't tried
-left_out() {
+# lacks WHAT WHY : what isn't tried
+lacks() {
     left=$((left + 1))
-    echo "authors: $1 left out, since $2"
+    left_out authors "$1" "$2"
 }
 
-# fail WHAT : what went wrong, with what was said
-fail() {
+# wrong WHAT : what went wrong, with what was said
+wrong() {
     echo "FAILED: $1: $(cat "$room/said")"
     failed=1
 }
@@ -34,15 +33,16 @@ python_with() {
 
 # tested PYTHON FILE : the tests of a file, whose count is said
 tested() {
-    "$1" "tests/runs/authors/$2" >"$room/said" 2>&1 || { fail "$2"; return; }
+    (unittests "$1" "tests/runs/authors/$2") || { failed=1; return; }
     echo "authors: $2: $(sed -n 's/^Ran \([0-9]* tests\) .*/\1/p' "$room/said")$(sed -n 's/^OK \((skipped=.*)\)$/ \1/p' "$room/said")"
 }
 
 # ---- the server
 
-python3 tests/runs/authors/recipes.py || failed=1
 if python=$(python_with pylsp_jsonrpc markdown_it docutils tinycss2); then
     tested "$python" server.py
+    tested "$python" documents.py
+    "$python" tests/runs/authors/pieces.py || failed=1
     "$python" tests/runs/authors/expectations.py || failed=1
     [ ! -e "/proc/$$/task/$$/children" ] || "$python" tests/runs/authors/latency.py || failed=1
     mkdir "$room/bin"
@@ -57,7 +57,7 @@ if python=$(python_with pylsp_jsonrpc markdown_it docutils tinycss2); then
     printf 'http://h/\nhttp://h/\303\274 b\n' >page.links
     printf '<?xml version="1.0"?>\n<rss><channel>\n<link>http://h/\303\251^b</link>\n</channel></rss>\n' >page.xml
     printf 'Title\n=====\n\n\303\251 `x <http://h/a^b>`__\n' >page.rst
-    # The recipes are those of the page.
+    # The recipes are the page's.
     python3 "$top/tests/runs/authors/recipes.py" vim 'ale#linter' >"$room/recipe.vim"
     python3 "$top/tests/runs/authors/recipes.py" lua start_client >"$room/recipe.lua"
     python3 "$top/tests/runs/authors/recipes.py" elisp eglot >"$room/recipe.el"
@@ -67,12 +67,12 @@ if python=$(python_with pylsp_jsonrpc markdown_it docutils tinycss2); then
     saw() {
         local wanted
         for wanted in '^one diagnostic: \(true\|t\|1\)$' "^at line $3" "line: .*$4" '^none left: \(true\|t\|1\)$'; do
-            grep -q "$wanted" "$room/said" || { fail "$1 on $2 has no '$wanted'"; return; }
+            grep -q "$wanted" "$room/said" || { wrong "$1 on $2 has no '$wanted'"; return; }
         done
-        if grep -q '^\(hover\|one that is typed\|one server\): \(false\|nil\)' "$room/said"; then fail "$1 on $2"; fi
+        if grep -q '^\(hover\|one that is typed\|one server\): \(false\|nil\)' "$room/said"; then wrong "$1 on $2"; fi
         # (the recipe of Neovim names no lists, and Emacs has no mode of Markdown without a package)
         case $1-$2 in *.links | Emacs-page.md | ALE-*) return ;; esac
-        grep -q '^by the recipe: \(true\|t\)$' "$room/said" || fail "$1 on $2 isn't started by the page's recipe"
+        grep -q '^by the recipe: \(true\|t\)$' "$room/said" || wrong "$1 on $2 isn't started by the page's recipe"
     }
 
     tried=0
@@ -108,13 +108,13 @@ page.xml|3 byte 18|^b|%5Eb</link>
 page.rst|4 byte 18|^b|http://h/a%5Eb>`__
 END
     cd "$top"
-    command -v nvim >/dev/null || left_out Neovim "nvim isn't installed"
+    command -v nvim >/dev/null || lacks Neovim "nvim isn't installed"
     emacs --batch --eval '(progn (package-initialize) (require (quote eglot)))' >/dev/null 2>&1 ||
-        left_out Emacs "emacs or eglot isn't installed"
-    [ -d "${ALE:-/usr/share/vim-ale}" ] && command -v vim script >/dev/null || left_out ALE "vim, vim-ale or script isn't installed"
+        lacks Emacs "emacs or eglot isn't installed"
+    [ -d "${ALE:-/usr/share/vim-ale}" ] && command -v vim script >/dev/null || lacks ALE "vim, vim-ale or script isn't installed"
     echo "authors: $tried runs of editors"
 else
-    left_out 'the server' "python-lsp-jsonrpc, markdown-it-py, docutils or tinycss2 isn't installed"
+    lacks 'the server' "python-lsp-jsonrpc, markdown-it-py, docutils or tinycss2 isn't installed"
 fi
 
 # ---- builds
@@ -130,7 +130,7 @@ export PYTHONPATH=$PYTHONPATH:$room/about
 if python=$(python_with sphinx) || python=$(python_with mkdocs); then
     tested "$python" builds.py
 else
-    left_out 'builds of Sphinx and MkDocs' "neither is installed"
+    lacks 'builds of Sphinx and MkDocs' "neither is installed"
 fi
 python=$(python_with pylsp_jsonrpc markdown_it docutils tinycss2 sphinx mkdocs) || python=$(python_with markdown_it) || python=python3
 "$python" tests/runs/authors/spoiled.py || failed=1
@@ -149,13 +149,13 @@ if [ ${#documentations[@]} -gt 0 ] && python=$(python_with docutils); then
         "$python" tests/runs/authors/planted.py "$kind" "$folder" || failed=1
     done
 else
-    left_out 'faults planted into documentation' "docutils, docutils-doc or python3-doc isn't installed"
+    lacks 'faults planted into documentation' "docutils, docutils-doc or python3-doc isn't installed"
 fi
 # The action for GitHub, whose program of Python makes an environment.
 if command -v curl >/dev/null && python=$(python_with yaml venv ensurepip); then
     "$python" tests/runs/authors/action.py "$library/python" || failed=1
 else
-    left_out 'the action for GitHub' "curl, or Python's yaml or venv, isn't installed"
+    lacks 'the action for GitHub' "curl, or Python's yaml or venv, isn't installed"
 fi
 # The commands of the guides on documents, by a Python that has most of what they name.
 python=$(python_with sphinx mkdocs) || python=$(python_with sphinx) || python=python3
@@ -163,7 +163,7 @@ python=$(python_with sphinx mkdocs) || python=$(python_with sphinx) || python=py
 if python=$(python_with feedparser); then
     "$python" tests/runs/authors/feeds.py || failed=1
 else
-    left_out 'feeds against feedparser' "feedparser isn't installed"
+    lacks 'feeds against feedparser' "feedparser isn't installed"
 fi
 echo "authors: $left parts left out"
 exit $failed

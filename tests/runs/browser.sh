@@ -4,13 +4,13 @@
 # sees that spoiled copies are found. What isn't installed is left out, and a line says so. A folder that
 # tools/build-page has made may be given second; otherwise one is made. Words of the environment: QUICK leaves out the
 # browsers and the spoiled copies, GLUE compiles and tries copies with a spoiled glue too, BROWSERS names those for the
-# page (chromium, firefox and webkit, otherwise the first alone), ALL tries all in each of them (else all tests in Chromium,
+# page (chromium, firefox and webkit, otherwise only the first), ALL tries all in each of them (else all tests in Chromium,
 # a sample in the others, and some of the spoiled copies), and PICTURE is a file for the picture of the page.
 . "$(dirname "$(realpath "$0")")/start.sh"
 here=$top/tests/runs/browser
 needs browser node python3 wasm-opt
 [ "$(node -p 'process.versions.node.split(".")[0] >= 18')" = true ] ||
-    { echo "browser: left out, since node is older than 18"; exit 0; }
+    { left_out browser '' 'node is older than 18'; exit 0; }
 folder=${2:-$room/page}
 if [ $# -lt 2 ]; then
     KEEP=$room/proved.o "$top/tools/build-page" "$folder" >"$room/built" 2>&1 ||
@@ -24,7 +24,7 @@ if command -v cc >/dev/null; then
         "$top/bindings/web/module/heap.c" "$here/heap.c" -o "$room/heap"
     "$room/heap"
 else
-    echo "browser: the heap alone is left out, since cc isn't installed"
+    left_out browser 'the heap alone' "cc isn't installed"
 fi
 
 python3 "$here/answers.py" "$program" "$room/cases.json" "$top"/tests/vectors/*.json
@@ -61,7 +61,7 @@ if command -v npm >/dev/null; then
     tar -tzf "$package" | grep -v '/$' | sort | diff "$room/wanted" - ||
         { echo 'FAILED: npm makes the package of other files'; exit 1; }
 else
-    echo "browser: npm is left out, since it isn't installed"
+    left_out browser npm "it isn't installed"
     tar -C "$room/user/node_modules/urlcheck" --strip-components=1 -xzf "$package"
 fi
 example "$top/bindings/web/README.md" "$room/user"
@@ -80,18 +80,28 @@ tar -C "$room" -xzf "$room"/packed/urlcheck-page-*.tar.gz
 diff -r --exclude='program.*' "$folder" "$room"/urlcheck-page-* || { echo 'FAILED: the page is packed otherwise than it was built'; exit 1; }
 
 # The guide's lines for a bundle, of a program that sets the title of its page.
-if command -v esbuild >/dev/null; then
-    cat >"$room/user/app.js" <<'END'
+cat >"$room/user/app.js" <<'END'
 import { load } from 'urlcheck'
 const urlcheck = await load()
 document.title = urlcheck.check('https://example.com/a b').rule
 END
-    mkdir "$room/user/site"
-    echo '<!doctype html><script type="module" src="app.js"></script>' >"$room/user/site/index.html"
+mkdir "$room/user/site"
+echo '<!doctype html><script type="module" src="app.js"></script>' >"$room/user/site/index.html"
+if command -v esbuild >/dev/null; then
     awk '/^## In a bundle/ { on = 1 } on && /^```sh$/ { inside = 1; next } inside && /^```$/ { exit } inside' "$guide" >"$room/lines"
     (cd "$room/user" && sh -e "$room/lines") >"$room/said" 2>&1 || { cat "$room/said"; exit 1; }
 else
-    echo "browser: the bundle is left out, since esbuild isn't installed"
+    left_out browser 'the bundle' "esbuild isn't installed"
+fi
+
+# A bundle by rollup, which leaves addresses of files as they are written.
+if command -v rollup >/dev/null; then
+    mkdir -p "$room/user/rolled"
+    sed "s|'urlcheck'|'./node_modules/urlcheck/urlcheck.js'|" "$room/user/app.js" >"$room/user/rolled.js"
+    cp "$room/user/site/index.html" "$room/user/node_modules/urlcheck/urlcheck.wasm" "$room/user/rolled/"
+    (cd "$room/user" && quietly rollup rolled.js --format es --external node:fs/promises --file rolled/app.js)
+else
+    left_out browser 'the bundle by rollup' "it isn't installed"
 fi
 
 if command -v tsc >/dev/null; then
@@ -102,11 +112,11 @@ if command -v tsc >/dev/null; then
         "$room/types/types.ts" "$room/types/node.d.ts"
     echo 'browser: the types are those of urlcheck.js'
 else
-    echo "browser: the types are left out, since tsc isn't installed"
+    left_out browser 'the types' "tsc isn't installed"
 fi
 
 if [ -n "${QUICK:-}" ]; then
-    echo 'browser: the browsers and the spoiled copies are left out, since QUICK is set'
+    left_out browser 'the browsers and the spoiled copies' 'QUICK is set'
     exit 0
 fi
 module=''
@@ -119,7 +129,7 @@ for it in python3 /usr/bin/python3; do
     if "$it" -c 'import selenium' 2>/dev/null; then python=$it; fi
 done
 if [ -z "$python" ]; then
-    echo "browser: the page is left out, since python3-selenium isn't installed"
+    left_out browser 'the page' "python3-selenium isn't installed"
     exit 0
 fi
 export PYTHONDONTWRITEBYTECODE=1
@@ -127,11 +137,14 @@ if command -v mypy >/dev/null; then
     (cd "$here" && mypy --strict --cache-dir "$room/mypy" --python-executable "$(command -v "$python")" ./*.py) \
         >"$room/said" 2>&1 || { cat "$room/said"; echo 'FAILED: the types of the tests of the page'; exit 1; }
 else
-    echo "browser: the types of the tests are left out, since mypy isn't installed"
+    left_out browser 'the types of the tests' "mypy isn't installed"
 fi
-if [ -d "$room/user/site" ]; then
-    [ "$("$python" "$here/bundle.py" "$room/user/site")" = code-point ] || { echo 'FAILED: a bundle of the package'; exit 1; }
-    echo 'browser: a bundle by esbuild, in Chromium'
+if [ -f "$room/user/site/app.js" ] || [ -f "$room/user/rolled/app.js" ]; then
+    for bundle in site rolled; do
+        [ ! -f "$room/user/$bundle/app.js" ] || [ "$("$python" "$here/bundle.py" "$room/user/$bundle")" = code-point ] ||
+            fail "a bundle of the package: $bundle"
+    done
+    echo 'browser: bundles by esbuild and rollup, in Chromium'
 fi
 cp -r "$folder" "$room/limited"
 node "$here/limited.mjs" "$folder/urlcheck.wasm" 4 "$room/limited/urlcheck.wasm"

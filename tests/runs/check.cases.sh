@@ -1,5 +1,5 @@
 # What `check` writes of texts written out, as the URL Standard's section 4.3 and docs/DECISIONS.md give it. Each expected
-# line is worked out by hand from these. The texts that are refused are those of `tests/vectors/`, with which
+# line is worked out by hand from these. The refused texts are in `tests/vectors/`, with which
 # tests/runs/library.sh compares what `check` writes of them.
 
 # says WORD.. : a run of `check` with these words and the text of each row of standard input writes the lines of that row,
@@ -108,7 +108,7 @@ a:b => valid\nscheme a\nopaque b\n
 1:b => valid\nscheme http\nhost domain h\nsegment 1:b\n
 ROWS
 
-# A base that is refused alone is named with its own place and rule, and of many faults with the least.
+# A base that is refused by itself is named with its own place and rule, and of many faults with the least.
 expect 2 '' "$(no_base 7 host-missing 'a host is missing here')" check --base http:// '#f'
 expect 2 '' "$(no_base 10 code-point 'U+0020 SPACE is not allowed in a URL')" check --base 'http://h/a b' x
 expect 2 '' "$(no_base 7 host-domain 'a URL string has no credentials: no user name, password or @ before its host; leave them out')" \

@@ -49,7 +49,7 @@ shows() {
         sed "s|$room/||g") || fail "${environment[*]} ${words[*]} ${colours[*]}: with colours it says something else"
 }
 
-if has terminals 14; then
+if has terminals 18; then
     for format in gnu caret; do
         shows colours --format $format
         shows none --format $format --color never
@@ -58,9 +58,12 @@ if has terminals 14; then
     done
     shows none TERM=dumb
     shows colours TERM=dumb FORCE_COLOR=1
+    for terminal in dumber dumb-emacs; do shows colours TERM=$terminal; done
     shows none INSIDE_EMACS=28.2,compile
     shows colours INSIDE_EMACS=28.2,compile FORCE_COLOR=1
     shows none NO_COLOR=1 FORCE_COLOR=1
+    shows none NO_COLOR=yes
+    shows colours TERM=dumb FORCE_COLOR=true
     shows colours NO_COLOR=1 --color always
 fi
 
@@ -87,4 +90,4 @@ expect 2 '' "urlcheck: no colour choice is named 'allways'; the nearest is alway
 expect 2 '' "urlcheck: no colour choice is named ''\\n$choices" lint --color= --format x links.txt
 rm -f "$room/links.txt"
 
-all_cases 30
+all_cases 34

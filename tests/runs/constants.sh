@@ -3,7 +3,7 @@
 #
 # What a contract says of a number or a set is worth nothing where the definition takes both from the code: a wrong
 # constant is then its own definition. So of the modules `TheConstants` of the repository's own crates a file under
-# crates/NAME/specs may use texts alone, whose words the runs of tests/runs/ compare. Proofs may use each constant: there it
+# crates/NAME/specs may use only texts, whose words the runs of tests/runs/ compare. Proofs may use each constant: there it
 # is shown to be what the definition says. It ends with 0 where no file uses another one, with 1 where one does, and with 2
 # where it can't look.
 set -u

@@ -8,17 +8,28 @@ said_of() {
     ends_with "$status" $? "$stderr" "$*, of a list that looks otherwise"
 }
 
+# links_say STDERR WORD.. : links of the list, of which a line isn't ok, says nothing on standard error unless that is a terminal,
+# and this at a terminal
+links_say() {
+    local stderr=$1
+    shift
+    said_of 1 '' links "$@"
+    has terminals 1 || return 0
+    at_terminal list links "$@"
+    ends_with 1 $? "$stderr" "links $*, at a terminal, of a list that looks otherwise"
+}
+
 # looks CLAIM REWRITER BYTES : a list of these bytes, of which something is refused, is said to look so: as a FILE, and as the
 # standard input of each command that reads a list
 looks() {
     printf '%b' "$3" >"$room/list"
     said_of 1 "urlcheck: list $1: $2 | urlcheck lint -\\n" lint -q list
     said_of 1 "urlcheck: standard input $1: $2 | urlcheck lint -\\n" lint --quiet -
-    said_of 1 "urlcheck: standard input $1: $2 | urlcheck links\\n" links
+    links_say "urlcheck: standard input $1: $2 | urlcheck links\\n"
     said_of 1 "urlcheck: standard input $1: $2 | urlcheck mend\\n" mend -q
 }
 
-# plain STATUS BYTES [WORD..] : nothing is said of a list of these bytes, for lint with these words
+# plain STATUS BYTES [WORD..] : no message is about a list of these bytes, for lint with these words
 plain() {
     local status=$1 bytes=$2
     shift 2
@@ -44,6 +55,12 @@ looks "$table" 'cut -d , -f N FILE' 'a-b,c'
 looks "$table" 'cut -f N FILE' 'name\turl or none\nx\thttp://h/\n'
 looks "$table" 'cut -f N FILE' 'a\tb,c\n'
 
+# What has a NUL isn't text, whatever ends its lines.
+printf '\177ELF\2\0\0x\ry\r' >"$room/list"
+said_of 1 "urlcheck: list isn't text\n" lint -q list
+said_of 1 "urlcheck: standard input isn't text\n" lint -q -
+links_say "urlcheck: standard input isn't text\n"
+
 # No such list: a sentence, links with commas, an IPv6 address, brackets without a string, one letter of a mark, LF after CR.
 for bytes in 'Hello, world\n' 'a,b: c\n' 'a,b;c\n' 'x/a,b\n' '[::1]\n' '[{}]\n' '[[["x"]]]\n' 'x ["a"]\n' '\037x\n' '\0377x\n' \
     '\0376\n\0377' 'x\r\n' '\r\nx' 'x\n' 'x y\n'; do
@@ -51,7 +68,7 @@ for bytes in 'Hello, world\n' 'a,b: c\n' 'a,b;c\n' 'x/a,b\n' '[::1]\n' '[{}]\n' 
 done
 plain 0 ''
 plain 0 'http://h/a,b\n'
-# (where nothing is refused, nothing is said)
+# (if nothing is refused, there is no message)
 plain 0 'name,url\n' --base http://h/
 plain 0 'a,b\nc\n' --base http://h/
 
@@ -72,17 +89,17 @@ printf 'a,b\n' >"$room/table"
 said_of 2 "urlcheck: list $gzip: gzip -dc FILE | urlcheck lint -\\nurlcheck: missing: can't be read: there is no such file\\n\
 urlcheck: table $table: cut -d , -f N FILE | urlcheck lint -\\n\
 urlcheck: standard input $gzip: gzip -dc FILE | urlcheck lint -\\nurlcheck: 3 lines, 3 refused\\n" lint - list missing table
-printf '%b' "-:1:2: error: this line isn't UTF-8 [not-utf8]\\nlist:1:2: error: this line isn't UTF-8 [not-utf8]\\n\
-table:1:1: error: there is no scheme and no base [no-scheme]\\n" | cmp -s - "$room/out" || fail "hints of lists: it wrote $(cat "$room/out")"
-said_of 1 "urlcheck: standard input $gzip: gzip -dc FILE | urlcheck links\\n" links --base http://h/
+wrote '-:1:2: error: [not-utf8]\nlist:1:2: error: [not-utf8]\ntable:1:1: error: [no-scheme]\n' "$room/out" ||
+    fail "hints of lists: it wrote $(cat "$room/out")"
+links_say "urlcheck: standard input $gzip: gzip -dc FILE | urlcheck links\\n" --base http://h/
 printf '1 bad 0 not-utf8\nlinks 1 ok 0 bad 1 differs 0\n' | cmp -s - "$room/out" || fail "links of gzip: it wrote $(cat "$room/out")"
 said_of 1 "urlcheck: standard input $gzip: gzip -dc FILE | urlcheck mend\\n\
 urlcheck: 1 line, 0 mended (0 same, 0 escaped, 0 changed), 1 refused\\n" mend
 cmp -s "$room/list" "$room/out" || fail "mend of gzip: it wrote $(cat "$room/out")"
 
 # A mark whose bytes come in two reads, and a name as a terminal may show it.
-(printf '\x1f'; sleep 0.1; printf '\x8b\n') | "$program" links >"$room/out" 2>"$room/err"
-ends_with 1 $? "urlcheck: standard input $gzip: gzip -dc FILE | urlcheck links\\n" 'links, of a mark in two pieces'
+(printf '\x1f'; sleep 0.1; printf '\x8b\n') | "$program" mend -q >"$room/out" 2>"$room/err"
+ends_with 1 $? "urlcheck: standard input $gzip: gzip -dc FILE | urlcheck mend\\n" 'mend, of a mark in two pieces'
 printf '\x1f\x8b\n' >"$room/"$'a\e'
 if has_file $'a\e'; then
     (cd "$room" && "$program" lint -q $'a\e') >"$room/out" 2>"$room/err"
@@ -97,4 +114,4 @@ ends_with 1 $? '' 'links, of a column'
 printf 'http://h/\rhttp://h/x\r' | tr '\r' '\n' | "$program" mend -q >"$room/out" 2>"$room/err"
 ends_with 0 $? '' 'mend, of lines that ended by CR'
 
-all_cases 116
+all_cases 137

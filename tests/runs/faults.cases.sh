@@ -1,4 +1,4 @@
-# All that is wrong with texts: `check --all` by each profile, alone and against a base. Each place and rule is worked out by
+# All that is wrong with texts: `check --all` under each profile, alone and against a base. Each place and rule is worked out by
 # hand from the rules of docs/rules/README.md.
 
 # faulty TEXT FAULTS WORD.. : with these words the text is refused by these places and rules, in pairs
@@ -17,7 +17,7 @@ faulty 'http://h//%^' '9 first-segment-empty 10 percent 11 code-point'
 faulty '//h^/a b' '0 no-scheme 6 code-point'
 faulty '#^' '1 code-point' --base urn:a
 
-# What the standard profile alone refuses.
+# What only the standard profile refuses.
 faulty http://h//a '9 first-segment-empty'
 faulty http://h//.. '9 first-segment-empty'
 faulty file:////a '8 first-segment-empty'

@@ -6,49 +6,49 @@ does() {
     shift 4
     printf '%b' "$text" | (cd "$room" && "$program" "$@") >"$room/out" 2>"$room/err"
     ends_with "$status" $? "$stderr" "$*"
-    if ! printf '%b' "$stdout" | cmp -s - "$room/out"; then fail "$*: it wrote: $(cat "$room/out")"; fi
+    if ! wrote "$stdout" "$room/out"; then fail "$*: it wrote: $(cat "$room/out")"; fi
 }
 
 # A lint: the input is read once, in its place among the files, and a file that isn't there keeps none back.
-wrong='-:2:1: error: there is no scheme and no base [no-scheme]\n'
+wrong='-:2:1: error: [no-scheme]\n'
 does 1 "$wrong" 'urlcheck: 2 lines, 1 refused\n' 'urn:a\nx\n' lint -
 does 2 "$wrong" "urlcheck: no/such/file: can't be read: there is no such file\nurlcheck: 2 lines, 1 refused\n" \
     'urn:a\nx\n' lint no/such/file --format gnu - -
 does 0 '' 'urlcheck: 2 lines, 0 refused\n' 'urn:a\nx\n' lint --base http://h/ -
 
-# A name after `--` is that of a file, also an empty one and one that begins as an option.
+# A name after `--` is a file's, even an empty one and one that begins as an option.
 printf 'x\n' | tee "$room/a" >"$room/--all"
-scheme='1:1: error: there is no scheme and no base [no-scheme]\n'
+scheme='1:1: error: [no-scheme]\n'
 does 2 "a:$scheme--all:$scheme" "urlcheck: '': can't be read: there is no such file\nurlcheck: 2 lines, 2 refused\n" '' \
     lint a -- --all ''
 rm -f "$room/a" "$room/--all"
 
-# All options of a lint: the base and one of the links are valid under the wide profile alone.
+# All options of a lint: the base and one of the links are valid only under the wide profile.
 printf 'http://x_y//a b\n' >"$room/a b"
 space='"message":"U+0020 SPACE is not allowed in a URL","offered":true,"rule":"code-point"'
 says='"message":"U+0025 PERCENT SIGN has to be followed by two hex digits"'
 percent="$says,\"rule\":\"percent\""
-does 1 "{\"column\":2,\"cut\":false,\"file\":\"-\",\"kind\":\"escaped\",\"line\":1,\"mended\":\"c%20d%254\",$space,\"text\":\"c d%4\"}
-{\"column\":4,\"cut\":false,\"file\":\"-\",\"line\":1,$percent,\"text\":\"c d%4\"}
+does 1 "{\"column\":2,\"cut\":false,\"file\":\"-\",\"kind\":\"escaped\",\"line\":1,\"mended\":\"c%20d%25g4\",$space,\"text\":\"c d%g4\"}
+{\"column\":4,\"cut\":false,\"file\":\"-\",\"line\":1,$percent,\"text\":\"c d%g4\"}
 {\"column\":14,\"cut\":false,\"file\":\"a b\",\"kind\":\"same\",\"line\":1,\"mended\":\"http://x_y//a%20b\",$space,\"text\":\"http://x_y//a b\"}
-" '' 'c d%4\n' lint - --base=http://x_y// --all --wide --format json --quiet 'a b'
+" '' 'c d%g4\n' lint - --base=http://x_y// --all --wide --format json --quiet 'a b'
 rm -f "$room/a b"
 printf 'q:2:8:\xe6\x97\xa5 e\n' >"$room/a b"
-printf 'r:3:1:%%4\n' >"$room/--all"
-does 1 "{\"column\":12,\"cut\":false,\"file\":\"p\",\"kind\":\"escaped\",\"line\":1,\"mended\":\"http://h_/c%20d%254\",\
-$space,\"text\":\"http://h_/c d%4\"}
-{\"column\":14,\"cut\":false,\"file\":\"p\",\"line\":1,$percent,\"text\":\"http://h_/c d%4\"}
+printf 'r:3:1:%%g4\n' >"$room/--all"
+does 1 "{\"column\":12,\"cut\":false,\"file\":\"p\",\"kind\":\"escaped\",\"line\":1,\"mended\":\"http://h_/c%20d%25g4\",\
+$space,\"text\":\"http://h_/c d%g4\"}
+{\"column\":14,\"cut\":false,\"file\":\"p\",\"line\":1,$percent,\"text\":\"http://h_/c d%g4\"}
 {\"column\":10,\"cut\":false,\"file\":\"q\",\"kind\":\"same\",\"line\":2,\"mended\":\"\xe6\x97\xa5%20e\",$space,\
 \"text\":\"\xe6\x97\xa5 e\"}
-{\"column\":1,\"cut\":false,\"file\":\"r\",\"kind\":\"escaped\",\"line\":3,\"mended\":\"%254\",$says,\"offered\":true,\"rule\":\"percent\",\"text\":\"%4\"}
-" '' 'p:1:1:http://h_/c d%4\n' lint - --base=http://h/ --all --wide --format json --columns=screen --located \
+{\"column\":1,\"cut\":false,\"file\":\"r\",\"kind\":\"escaped\",\"line\":3,\"mended\":\"%25g4\",$says,\"offered\":true,\"rule\":\"percent\",\"text\":\"%g4\"}
+" '' 'p:1:1:http://h_/c d%g4\n' lint - --base=http://h/ --all --wide --format json --columns=screen --located \
     --stdin-name=n --quiet 'a b' -- --all
 rm -f "$room/a b" "$room/--all"
 
 # Columns: before the space are U+00E9, of two bytes, and in the first link U+65E5, which is wide.
-does 1 'page:3:12: error: U+0020 SPACE is not allowed in a URL [code-point]\n' 'urlcheck: 1 line, 1 refused\n' \
+does 1 'page:3:12: error: [code-point]\n' 'urlcheck: 1 line, 1 refused\n' \
     'page:3:5:urn:\xc3\xa9\xe6\x97\xa5 \n' lint --columns=screen - --located
-does 1 '-:1:7: error: U+0020 SPACE is not allowed in a URL [code-point]\n' 'urlcheck: 1 line, 1 refused\n' \
+does 1 '-:1:7: error: [code-point]\n' 'urlcheck: 1 line, 1 refused\n' \
     'urn:\xc3\xa9 ' lint --columns bytes -
 
 # Names of no format and of no column unit, and which of them is told of where both are such: nothing is read.

@@ -4,14 +4,11 @@
 # mistake, and spoiled copies, which have to give other answers. The programs in Ruby, PHP, C#, Lua and Perl of the
 # guide report the same texts as `urlcheck lint`. What isn't installed is left out, and a line says so. It needs no
 # network.
-# Usage: tests/runs/languages.sh PROGRAM [LIBRARY]
-# LIBRARY is a folder that tools/build-library made; without it one is made.
+# LIBRARY may name a folder that tools/build-library wrote.
 . "$(dirname "$(realpath "$0")")/start.sh"
 cd "$top/tests/runs/languages"
 needs languages gcc python3 pkg-config
-library=${2:-$room/installed}
-[ $# -gt 1 ] || "$top/tools/build-library" "$library" >"$room/built" 2>&1 || { cat "$room/built"; exit 1; }
-library=$(realpath "$library")
+with_library
 include=$library/include
 rooms=$room
 export PYTHONDONTWRITEBYTECODE=1 LC_ALL=C.UTF-8
@@ -25,7 +22,7 @@ has_version() {
     grep -qF -- "${2/@/$number}" "$top/bindings/$1" || { echo "FAILED: bindings/$1 has no version $number"; exit 1; }
 }
 
-# The answers from C, which tests/runs/library.sh compares with those of the program.
+# The answers from C, which tests/runs/library.sh compares with the program's.
 cases=$room/cases answers=$room/answers mended=$room/mended
 python3 ../library/cases.py pack "$cases" "$top"/tests/vectors/*.json
 gcc -std=c99 -O2 -I "$include" ../library/answers.c "$library/lib/liburlcheck.a" -o "$room/answers_c"
@@ -33,22 +30,17 @@ gcc -std=c99 -O2 -I "$include" ../library/answers.c "$library/lib/liburlcheck.a"
 "$room/answers_c" "$cases" mended >"$mended"
 python3 vectors.py "$answers" "$top"/tests/vectors/*.json
 
-fail() {
-    echo "FAILED: $*"
-    exit 1
-}
-
 # here WHAT TOOL : whether a tool is installed, otherwise says what is left out
 here() {
-    command -v "$2" >/dev/null || { echo "languages: $1 left out, since $2 is not installed"; return 1; }
+    command -v "$2" >/dev/null || { left_out languages "$1" "$2 is not installed"; return 1; }
 }
 
-# with WHAT PART COMMAND.. : whether a part of a tool is installed, which the command sees, else says what is left out
+# with WHAT PART COMMAND.. : whether a part of a tool is installed, which the command sees, otherwise says what is left out
 with() {
-    "${@:3}" >/dev/null 2>&1 || { echo "languages: $1 left out, since $2 is not installed"; return 1; }
+    "${@:3}" >/dev/null 2>&1 || { left_out languages "$1" "$2 is not installed"; return 1; }
 }
 
-# roomy WHAT GIGABYTES : waits until no other such part runs, and says whether so much memory is free, else what is left
+# roomy WHAT GIGABYTES : waits until no other such part runs, and says whether so much memory is free, otherwise what is left
 # out
 roomy() {
     local free
@@ -56,7 +48,7 @@ roomy() {
     flock "$heavy"
     free=$(awk '/^MemAvailable:/ { print int($2 / 1048576) }' /proc/meminfo)
     [ "${free:-0}" -ge "$2" ] && return
-    echo "languages: $1 left out, since of $2 GB of memory ${free:-0} are free"
+    left_out languages "$1" "of $2 GB of memory ${free:-0} are free"
     exec {heavy}>&-
     return 1
 }

@@ -202,7 +202,7 @@ def schemes():
 
 
 def parts_alike():
-    """Links of which each part but the scheme has so many letters, each alone and as the base of an empty text."""
+    """Links of which each part but the scheme has so many letters, each by itself and as the base of an empty text."""
     for length in range(1, 64):
         link = "http://{0}/{0}?{0}#{0}".format((string.ascii_lowercase * 3)[:length])
         yield valid(link, None, link)

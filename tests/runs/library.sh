@@ -1,15 +1,15 @@
 #!/usr/bin/env bash
 # Runs the library for C over every file of vectors, from C, C++ and Python, and compares with the program given as the
 # first argument; then four threads, each allocation refused in turn, a million faults, and a text of 100 MB. What isn't
-# installed is left out, and a line says so.
+# installed is left out, and a line says so. LIBRARY may name a folder that tools/build-library wrote.
 . "$(dirname "$(realpath "$0")")/start.sh"
 cd "$top/tests/runs/library"
 needs library gcc objcopy python3
-"$top/tools/build-library" "$room/installed" >"$room/built" 2>&1 || { cat "$room/built"; exit 1; }
-include=$room/installed/include
-archive=$room/installed/lib/liburlcheck.a
-shared=$room/installed/lib/liburlcheck.so
-export PYTHONPATH=$room/installed/python PYTHONDONTWRITEBYTECODE=1
+with_library
+include=$library/include
+archive=$library/lib/liburlcheck.a
+shared=$library/lib/liburlcheck.so
+export PYTHONPATH=$library/python PYTHONDONTWRITEBYTECODE=1
 strict=(-Wall -Wextra -Werror -O2 -g)
 sanitized=(-fsanitize=address,undefined -fno-sanitize-recover=all)
 
@@ -18,7 +18,7 @@ for seen in "$(nm -g --defined-only "$archive")" "$(nm -D --defined-only "$share
     if grep -E ' [B-Z] ' <<<"$seen" | grep -qv ' urlcheck_'; then echo "FAILED: another name is visible"; exit 1; fi
 done
 
-# The declarations alone are those of the header.
+# The declarations are the header's.
 "$top/tools/make-ffi-header" | cmp - "$top/bindings/c/include/urlcheck.ffi.h" ||
     { echo 'FAILED: urlcheck.ffi.h is old; tools/make-ffi-header >bindings/c/include/urlcheck.ffi.h makes it anew'; exit 1; }
 cmp "$top/bindings/c/include/urlcheck.ffi.h" "$include/urlcheck.ffi.h"
@@ -39,11 +39,10 @@ python3 cases.py places "$room/places" "$room/lengths.json"
 "$room/answers_c" "$room/cases" mended >"$room/mended"
 python3 cases.py mended "$program" "$room/mended" "$top"/tests/vectors/*.json
 if python3 -m pip --version >/dev/null 2>&1; then
-    python3 -m pip install --no-deps --no-index --target "$room/site" "$room/installed/python" >"$room/built" 2>&1 ||
-        { cat "$room/built"; exit 1; }
+    quietly python3 -m pip install --no-deps --no-index --target "$room/site" "$library/python"
     PYTHONPATH=$room/site
 else
-    echo "library: the package is read from its folder, since pip isn't installed"
+    left_out library 'an installed package' "pip isn't installed"
 fi
 python3 answers.py "$room/cases" >"$room/python"
 cmp "$room/c" "$room/python"
@@ -54,10 +53,10 @@ if command -v g++ >/dev/null; then
     cmp "$room/c" "$room/cpp"
     echo 'library: C, C++ and Python give the same answers'
 else
-    echo "library: C and Python give the same answers; C++ left out, since g++ isn't installed"
+    left_out library C++ "g++ isn't installed"
 fi
 
-# The calls for many texts, and reports by the calls of the library, byte for byte those of `lint`.
+# The calls for many texts, and reports by the calls of the library, byte for byte as `lint` writes them.
 python3 lines.py "$top"/tests/vectors/*.json >"$room/lines"
 gcc -std=c99 -D_XOPEN_SOURCE=600 "${strict[@]}" "${sanitized[@]}" -I "$include" batches.c "$archive" -o "$room/batches"
 "$room/batches" "$room/lines"
@@ -110,12 +109,6 @@ gcc -std=c99 "${strict[@]}" -I "$include" memory.c "$archive" \
 python3 programs.py "$top" "$room"
 gcc -std=c99 "${strict[@]}" -I "$include" "$room/page.c" "$archive" -o "$room/page_c"
 { "$room/page_c" || [ $? = 1 ]; } | cmp - "$room/page.c.out"
-gcc -std=c99 "${strict[@]}" -I "$include" "$room/start.c" "$archive" -o "$room/start_c"
-"$room/start_c" | cmp - <(echo 'byte 21')
-if command -v g++ >/dev/null; then
-    g++ -std=c++11 "${strict[@]}" -I "$include" "$room/page.cpp" "$archive" -o "$room/page_cpp"
-    "$room/page_cpp" | cmp - "$room/page.cpp.out"
-fi
 python3 "$room/page.py" | cmp - "$room/page.py.out"
 python3 "$room/report.py" | cmp - "$room/report.py.out"
 for name in start wheel; do python3 "$room/$name.py" | cmp - <(sed -n 's/^print.*# //p' "$room/$name.py"); done
@@ -123,7 +116,7 @@ for name in start wheel; do python3 "$room/$name.py" | cmp - <(sed -n 's/^print.
 # The lines by which the guide on C builds a program, in a folder that has the program and the library.
 mkdir "$room/build"
 cp "$room/page.c" "$room/build/program.c"
-ln -s "$room/installed" "$room/build/library"
+ln -s "$library" "$room/build/library"
 awk '/^```sh$/ { inside = 1; next } /^```$/ { inside = 0 } inside' "$top/docs/guides/c.md" \
     >"$room/build/lines"
 [ "$(grep -c '^cc ' "$room/build/lines")" = 2 ] || { echo 'FAILED: docs/guides/c.md has no two lines with cc'; exit 1; }
@@ -136,30 +129,30 @@ if command -v pkg-config >/dev/null && command -v cc >/dev/null; then
     done <"$room/build/lines"
     cd "$top/tests/runs/library"
 else
-    echo "library: the lines that build a program are left out, since pkg-config or cc isn't installed"
+    left_out library 'the lines that build a program' "pkg-config or cc isn't installed"
 fi
-for tests in documents sources comments projects standards words choices fixing limits errors; do
-    python3 $tests.py >"$room/tests" 2>&1 || { cat "$room/tests"; exit 1; }
+for tests in documents sources comments projects standards words choices fixing losses limits errors; do
+    unittests python3 $tests.py
 done
 for python in python3 /usr/bin/python3; do
     [ -z "$(command -v "$python")" ] || "$python" forms.py || exit 1
 done
+python3 front.py 300 1 || exit 1
 python3 schemas.py "$program" || exit 1
-# Where the system copies no process, as Windows, documents are read by a Python that begins again.
-WITHOUT_FORK=1 python3 documents.py Documents.test_{html,xml,bases,messages} >"$room/tests" 2>&1 ||
-    { cat "$room/tests"; exit 1; }
+# If the system copies no process, as on Windows, documents are read by a Python that begins again.
+WITHOUT_FORK=1 unittests python3 documents.py Documents.test_{html,xml,bases,messages}
 # The attributes of made-up documents of HTML, as another reader of it has them.
 if echo '#include <gumbo.h>' | gcc -E - >/dev/null 2>&1; then
     gcc -std=c99 "${strict[@]}" tokens.c -lgumbo -o "$room/tokens"
     python3 tokens.py "$room/tokens" 20000 1
 else
-    echo "library: the tokens of HTML are left out, since gumbo (libgumbo-dev) isn't installed"
+    left_out library 'the tokens of HTML' "gumbo (libgumbo-dev) isn't installed"
 fi
 # What is said of a link in each format is what `lint` says of it where it is.
-python3 formats.py "$program" >"$room/tests" 2>&1 || { cat "$room/tests"; exit 1; }
+unittests python3 formats.py "$program"
 python3 reports.py "$program" "$room/lines" standard parser
 echo 'library: links in documents in each format, errors of the package'
-PACKAGE=$room/installed/python bash "$top/tests/runs/uses.sh" "$program" documents
+PACKAGE=$library/python bash "$top/tests/runs/uses.sh" "$program" documents
 
 # The links of this repository's own pages, by a Python that has the reader of Markdown. A spoiled page is found.
 with_markdown=
@@ -177,20 +170,20 @@ if [ -n "$with_markdown" ]; then
     fi
     echo 'library: the links of the pages'
 else
-    echo "library: the links of the pages are left out, since markdown-it-py isn't installed"
+    left_out library 'the links of the pages' "markdown-it-py isn't installed"
 fi
 types=
 for checker in 'python3 -m mypy' mypy; do
     [ -n "$types" ] || ! $checker --version >/dev/null 2>&1 || types=$checker
 done
 if [ -n "$types" ]; then
-    # (markdown-it-py may be missing beside it)
+    # (markdown-it-py may be missing there)
     for system in linux win32; do
         $types --strict --ignore-missing-imports --platform $system --cache-dir "$room/mypy" -p urlcheck \
             >"$room/types" 2>&1 || { cat "$room/types"; exit 1; }
     done
 else
-    echo "library: the package's types left out, since mypy isn't installed"
+    left_out library "the package's types" "mypy isn't installed"
 fi
 python3 -c 'import doctest, sys, urlcheck; sys.exit(doctest.testmod(urlcheck).failed)'
 python3 - "$top/docs/rules/README.md" <<'END'

@@ -8,7 +8,7 @@ import json
 import re
 import sys
 import unicodedata
-from urllib.parse import unquote, urlsplit
+from urllib.parse import quote, unquote, urlsplit
 from xml.etree import ElementTree
 
 directory, names = sys.argv[1], sys.argv[2:]
@@ -27,6 +27,11 @@ def read(kind):
 
 def shown(text):
     return HIDDEN.sub("\ufffd", text)
+
+
+def copied(text):
+    """A URL that is the same where what a terminal isn't shown is percent-encoded."""
+    return HIDDEN.sub(lambda point: quote(point[0]), text)
 
 
 def window(text, place):
@@ -48,7 +53,7 @@ lines = {}
 for name in names:
     lines[name] = open(f"{directory}/{name}", "rb").read().split(b"\n")[:-1]
 
-# JSON: an object a line, with these members and no others; a link of more than 2,000 code points is cut. The sentence
+# JSON: an object per line, with these members and no others; a link of more than 2,000 code points is cut. The sentence
 # of some rules names the code point at the column.
 POINT = re.compile("^U\\+([0-9A-F]{4,6}) ?(.*) (is not allowed in a URL|is not allowed in a host|is not allowed in a port"
                    "|has to be followed by two hex digits)$")
@@ -76,6 +81,8 @@ def names_point(sentence, c):
 TEMPLATE = "; this looks like a template: check what it makes"
 WINDOWS = "; this looks like a path of Windows, whose URL begins with file:///"
 TWICE = "; this has two schemes: write one of them"
+READ_AS = "; what is before : is read as a scheme: write http:// before a host"
+PERHAPS = "; perhaps http or https is meant"
 LATER = "; a link begins after a space: write it by itself"
 HTML = "; this looks like HTML: check the links in it"
 ESCAPE = "; %u isn't an escape of URLs: write those of UTF-8"
@@ -83,16 +90,28 @@ JOINED = ("; write one slash", "; write one slash, or use --profile wide")
 SCHEME = "(?:https?|ftp|wss?|file)"
 
 
-# What is in a template; variables of Windows only when there are two percent signs.
-MARK = re.compile(r"%(?:[s(]|d(?![A-Za-z0-9]))|\$[A-Z]|<(?:%|[A-Za-z][A-Za-z0-9_-]*>(?![A-Za-z0-9]))|\[[A-Z][A-Z0-9_]*\]"
-                  r"|\A[^/]*/[^/]*/[^/?#:]*:[Pp][Oo][Rr][Tt](?=[/?#]|\Z)")
-VARIABLE = re.compile(r"%(?![0-9A-Fa-f]{2})[A-Z][A-Z0-9_]*(?=%|\Z)")
+# What only templates have, with what closes it; and what else is in one, but for code. Variables of Windows have two percent
+# signs, and a single letter after one is what is left of an escape.
+SURE = [("{{", "}}"), ("{%", "%}"), ("${", "}"), ("<%", "%>"), ("<?php", ""), ("<?=", ""), ("<!--#", ""), ("[%", "%]"),
+        ("*|", "|*"), ("[[", "]]")]
+MARK = re.compile(r"%\(|%[sd](?![A-Za-z0-9])|%(?s:.*)%%|\$[A-Z(]|<(?:%|[A-Za-z][A-Za-z0-9_-]*>(?![A-Za-z0-9]))"
+                  r"|\[[A-Z][A-Z0-9_]*\]|\A[^|]*\|[A-Z][A-Z0-9_]*\|(?![A-Za-z0-9])"
+                  r"|\A[^@]*@(?:[A-Z][A-Z0-9_]*@|@(?s:.*)@@)|@(?:[A-Z][A-Za-z0-9_.]*)?\(")
+PORT = re.compile(r"\A[^/]*/[^/]*/[^/?#:]*:[Pp][Oo][Rr][Tt](?=[/?#]|\Z)")
+HOST = re.compile(r"\A[^/]*/[^/]*/(?=[^/?#:]*_)[A-Z0-9_]+(?=[/?#:]|\Z)")
+VARIABLE = re.compile(r"%(?![0-9A-Fa-f]{2})[A-Z][A-Z0-9_]+(?=%|\Z)")
+CODE = re.compile(r"(?:data|javascript)(?::|\Z)", re.I)
+# An escape that is cut off.
+CUT = re.compile("%[0-9A-Fa-f](?=%|\\Z)")
 # The schemes whose paths have rules of their own.
-RULED = "(?:mailto|tel|sms|sips?|xmpp|geo|about|view-source):"
+RULED = "(?:mailto|tel|sms|sips?|xmpp|geo|about|view-source|urn):"
 
 
 def is_template(text):
-    if re.match(r"(?:data|javascript)(?::|\Z)", text, re.I):
+    is_code = CODE.match(text)
+    if PORT.match(text) or HOST.match(text) or any(mark in text and end in text for mark, end in (SURE[:-1] if is_code else SURE)):
+        return True
+    if is_code:
         return False
     return ("{" in text and '{"' not in text) or MARK.search(text) or (text.count("%") > 1 and VARIABLE.search(text))
 
@@ -106,6 +125,10 @@ def meant(text):
         return WINDOWS
     if re.match(f"{SCHEME}:/{{0,2}}{SCHEME}:?//", text, re.A | re.I):
         return TWICE
+    if re.match(r"(?:(?i:localhost)|[A-Za-z](?=[^:]*\.)[A-Za-z0-9.-]*):[0-9]+(?:[/?#]|\Z)", text):
+        return READ_AS
+    if re.match("(?!https?:)(?=[hps]*t)(?=[hts]*p)[htps]+://", text):
+        return PERHAPS
     if re.search(r"\A[^ ].* (?:https?://|www\.)", text, re.S):
         return LATER
     return ESCAPE if re.search("%u[0-9A-Fa-f]", text) else ""
@@ -114,7 +137,7 @@ def meant(text):
 def is_offered(text, instead):
     host = re.match("[^/]*/[^/]*/([0-9][0-9.]*)(?=[/?#:]|\\Z)", instead)
     path = re.split("[?#]", instead)[0] if re.match(RULED, instead, re.I) else ""
-    return not (meant(text) or ("/.//" in instead and "/.//" not in text) or (host and host[1] not in text) or path not in text)
+    return not (meant(text) or CUT.search(text) or ("/./" in instead and "/./" not in text) or (host and host[1] not in text) or path not in text)
 
 
 def text_of(one):
@@ -212,7 +235,7 @@ for one, text, it, head in zip(found, texts, mended, read("hostile.gnu").split("
     want(caret == padding + "^", f"caret: {one} below {line[:40]!r} stands {caret[:40]!r}")
     if it:
         words = "help: write " if it[2] else NAMED[it[0]]
-        want(next(rows, "") == words + shown(window(it[1], one[2] - 1)[0]), f"caret: {one}: no help, or another")
+        want(next(rows, "") == words + copied(window(it[1], one[2] - 1)[0]), f"caret: {one}: no help, or another")
 want(next(rows, None) is None, "caret: further lines")
 
 # GitHub: workflow commands, whose values are read back by what the runner's own reader does.

@@ -1,5 +1,5 @@
 """Located lines, made and read: what `urlcheck lint --located` wrote in each format is found by readers of its own formats,
-at the column of a link and so many more as its place in a list of links alone.
+at the column of a link and so many more as its place in a plain list of links.
 
     located_readers.py DIR make: writes DIR/located.txt and DIR/alone.txt, the same links without their places.
     located_readers.py DIR read: in DIR stand located.FORMAT, alone.json and alone.caret.
@@ -89,7 +89,7 @@ def wanted():
             yield "located.txt", count, 1, "not-located", f"this line isn't FILE:LINE:COLUMN:LINK, since {reason(line)}"
             continue
         name, number, column, link = FORM.match(line).groups()
-        places = found.get(count, []) if link else [(0, "no-scheme", "there is no scheme and no base")]
+        places = found.get(count, []) if link else [(0, "no-scheme", "the text is empty")]
         for place, rule, sentence in places:
             yield name, int(number), int(column) + place, rule, sentence
     yield "a", 1, 2, "not-utf8", "this line isn't UTF-8"
@@ -156,7 +156,7 @@ def rdjson(text):
 
 
 def blocks(text):
-    """The lines of each diagnostic with a caret: that of gnu, the link, the caret, and what to write, where that is said."""
+    """The lines of each diagnostic with a caret: the line of gnu, the link, the caret, and what to write, if that is there."""
     rows = text.split("\n")[:-1]
     while rows:
         count = 4 if len(rows) > 3 and rows[3].startswith(("help: write ", "note: ")) else 3
@@ -166,7 +166,7 @@ def blocks(text):
 
 
 def mended():
-    """What is offered in place of the links alone, by the line."""
+    """What is offered in place of plain links, by the line."""
     return {one["line"]: one["mended"] for one in map(json.loads, read("alone.json").split("\n")[:-1]) if one.get("offered")}
 
 
@@ -208,7 +208,7 @@ def read_all():
         if found != expected:
             other = [pair for pair in zip(found, expected) if pair[0] != pair[1]][:2]
             failed.append(f"{kind}: {len(found)} diagnostics of {len(expected)}: {other}")
-    # The lines of a caret: the link alone, with the caret below its place and what to write, as in the list of links alone.
+    # The lines of a caret: only the link, with the caret below its place and what to write, as in the plain list of links.
     rows = list(blocks(read("located.caret")))
     if [row[0] for row in rows] != read("located.gnu").split("\n")[:-1]:
         failed.append("caret: other diagnostics")

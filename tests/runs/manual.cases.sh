@@ -63,7 +63,7 @@ for name in urlcheck urlcheck-documents; do
     reads fish -n "$share/completions/$name.fish"
 done
 
-# Each option of the help is in the completions of each shell, by its name and by that of one letter, if it has one.
+# Each option of the help is in the completions of each shell, by its name and by its letter, if it has one.
 # offers SHELL COMMAND OPTION : the completions of a shell have an option of a command, or of the program
 offers() {
     local of="use_subcommand " name=" -l ${3#--} "
@@ -138,7 +138,7 @@ completes 'wide' --profile w
 completes '--format' --fo
 completes 'sarif' --git --format s
 completes 'gnu caret json github sarif checkstyle junit gitlab rdjson' --format =
-completes 'html xml markdown rst notebook epub css json-feed' --type =
+completes 'html xml markdown mdx rst notebook epub css json-feed' --type =
 completes 'code-points bytes utf16 screen' --list --columns =
 completes 'screen' --columns s
 completes '--type=xml' --type=x

@@ -84,11 +84,13 @@ filters 0 '' '' --quiet
 printf 'http://h/a b' >"$room/list"
 filters 0 'http://h/a%20b' 'urlcheck: 1 line, 1 mended (1 same, 0 escaped, 0 changed), 0 refused\n'
 printf 'http://h/a\nhttp://h/a b\r\nhttp://h/a|b\nhttp:c\nhttp://h:x/\r\n\n\377\nhttp://h/\0' >"$room/list"
+# (what has a NUL isn't text)
+no_text="urlcheck: standard input isn't text\\n"
 filters 1 'http://h/a\nhttp://h/a%20b\r\nhttp://h/a%7Cb\nhttp://c\nhttp://h:x/\r\n\n\0377\nhttp://h/' \
-    'urlcheck: 7 lines, 4 mended (2 same, 1 escaped, 1 changed), 2 refused\n' --base http://h/x
+    "$no_text"'urlcheck: 7 lines, 4 mended (2 same, 1 escaped, 1 changed), 2 refused\n' --base http://h/x
 filters 1 'http://h/a\nhttp://h/a%20b\r\nhttp://h/a|b\nhttp:c\nhttp://h:x/\r\n\n\0377\nhttp://h/' \
-    'urlcheck: 7 lines, 2 mended (2 same, 0 escaped, 0 changed), 4 refused\n' --base http://h/x --only same
-filters 1 'http://h/a\nhttp://h/a b\r\nhttp://h/a%7Cb\nhttp:c\nhttp://h:x/\r\n\n\0377\nhttp://h/\0' '' \
+    "$no_text"'urlcheck: 7 lines, 2 mended (2 same, 0 escaped, 0 changed), 4 refused\n' --base http://h/x --only same
+filters 1 'http://h/a\nhttp://h/a b\r\nhttp://h/a%7Cb\nhttp:c\nhttp://h:x/\r\n\n\0377\nhttp://h/\0' "$no_text" \
     --base http://h/x --only=escaped -q
 printf '\357\273\277http://h/ a\n' >"$room/list"
 filters 0 '\0357\0273\0277http://h/%20a\n' '' --quiet
@@ -98,9 +100,9 @@ printf '../a b\nhttp://h_/ a\n' >"$room/list"
 filters 1 '../a b\nhttp://h_/ a\n' 'urlcheck: 2 lines, 0 mended (0 same, 0 escaped, 0 changed), 2 refused\n'
 filters 0 '../a%20b\nhttp://h_/%20a\n' '' --quiet --wide --base http://h/
 filters 0 '../a%20b\nhttp://h_/%20a\n' '' --quiet --profile wide --base http://h/
-printf 'http://a%%2Db/ c\nurn:a b\nfile://h/C:/x\n' >"$room/list"
-filters 0 'http://a-b/%20c\nurn:a%20b\nfile://h/./C:/x\n' '' --quiet --wide
-filters 0 'http://a%2Db/%20c\nurn:a b\nfile://h/C:/x\n' \
+printf 'http://a%%2Db/ c\nfoo:a b\nfile://h/C:/x\n' >"$room/list"
+filters 1 'http://a-b/%20c\nfoo:a%20b\nfile://h/C:/x\n' '' --quiet --wide
+filters 0 'http://a%2Db/%20c\nfoo:a b\nfile://h/C:/x\n' \
     'urlcheck: 3 lines, 1 mended (1 same, 0 escaped, 0 changed), 0 refused\n' --profile parser
 filters 2 '' "$(no_base 0 no-scheme 'it has no scheme')" --base ''
 
@@ -114,7 +116,7 @@ mends_list() {
     filters $((refused > 0)) "$2" "urlcheck: $lines $noun, $((same + escaped + changed)) mended \
 ($same same, $escaped escaped, $changed changed), $refused refused\n" "${@:4}"
 }
-mends_list 'http://h/a\nhttp://h/a b\r\nhttp://h/a|b\nhttp:c\nhttp://h:x/\r\n\n\0377\nhttp://h/\0' \
+mends_list 'http://h/a\nhttp://h/a b\r\nhttp://h/a|b\nhttp:c\nhttp://h:x/\r\n\n\0377\nhttp://h/\0001' \
     'http://h/a\nhttp://h/a%20b\r\nhttp://h/a%7Cb\nhttp://c\nhttp://h:x/\r\n\n\0377\nhttp://h/' '7 3 1 0 2'
 mends_list 'http://h/a b\nhttp://h/a|b\nhttp:c\n' 'http://h/a%20b\nhttp://h/a|b\nhttp:c\n' '3 1 0 0 2' --base http://h/x \
     --only same
@@ -144,6 +146,16 @@ for row in a,65536,0 ' ,65537,1' ' ,65538,1' ' ,65539,1' ' ,200000,1'; do
     mends_list "$line\nhttp://h/a b" "$line\nhttp://h/a%20b" "2 1 0 0 $refused"
     mends_list "$line\r\nhttp://h/a b" "$line\r\nhttp://h/a%20b" "2 1 0 0 $refused"
     mends_list "$line" "$line" "1 0 0 0 $refused"
+done
+
+# (a byte order mark isn't a part of the first line, which may have as many bytes after it; no other line has one)
+for row in 65536,0 65537,1 65538,1 65539,1 65540,1 65541,1 200000,1; do
+    IFS=, read -r length refused <<<"$row"
+    line=http://h/$(head -c $((length - 9)) /dev/zero | tr '\0' a)
+    mends_list "\xef\xbb\xbf$line" "\xef\xbb\xbf$line" "1 0 0 0 $refused"
+    mends_list "\xef\xbb\xbf$line\nhttp://h/ b" "\xef\xbb\xbf$line\nhttp://h/%20b" "2 1 0 0 $refused"
+    mends_list "\xef\xbb\xbf$line\r\n" "\xef\xbb\xbf$line\r\n" "1 0 0 0 $refused"
+    mends_list "http://h/ b\n$line\r\n" "http://h/%20b\n$line\r\n" "2 1 0 0 $refused"
 done
 
 # Words.
@@ -199,7 +211,7 @@ in_place() {
     ended=$?
     ends_with "$status" $ended "$stderr" "mend --in-place $*"
     [ ! -s "$room/out" ] || fail "mend --in-place $*: it wrote: $(cat "$room/out")"
-    [ -z "$(find "$room/files" -name '*.urlcheck-new')" ] || fail "mend --in-place $*: a new file is left"
+    [ -z "$(find "$room/files" -name '*.urlcheck-new*')" ] || fail "mend --in-place $*: a new file is left"
 }
 # has_bytes FILE BYTES : a file of $room/files has these bytes
 has_bytes() {
@@ -225,12 +237,18 @@ stat -c '%i %Y' "$room/files/a.txt" >"$room/before"
 in_place 1 'urlcheck: 3 lines, 0 mended (0 same, 0 escaped, 0 changed), 1 refused\n' a.txt
 count=$((count + 1))
 stat -c '%i %Y' "$room/files/a.txt" | cmp -s - "$room/before" || fail 'mend --in-place wrote a file of which no line is mended'
-# (several files, the options of a filter, and the name of an option)
-printf 'http://h/a|b\nhttp:c\n' >"$room/files/b.txt"
+# (several files, the options of a filter, and the name of an option; another URL is written only if that is asked for)
+printf 'http://h/a|b\nhttp:c\nfile:a[1] b\n' >"$room/files/b.txt"
 printf 'a b\n' >"$room/files/-i"
-in_place 0 'urlcheck: 3 lines, 3 mended (1 same, 1 escaped, 1 changed), 0 refused\n' --base http://h/ b.txt -- -i
-has_bytes b.txt 'http://h/a%7Cb\nhttp://c\n'
+in_place 1 'urlcheck: 4 lines, 2 mended (1 same, 1 escaped, 0 changed), 2 refused\n' --base http://h/ b.txt -- -i
+has_bytes b.txt 'http://h/a%7Cb\nhttp:c\nfile:a[1] b\n'
 has_bytes -i 'a%20b\n'
+in_place 1 'urlcheck: 3 lines, 0 mended (0 same, 0 escaped, 0 changed), 2 refused\n' --base http://h/ --only same b.txt
+in_place 0 'urlcheck: 3 lines, 2 mended (0 same, 0 escaped, 2 changed), 0 refused\n' --base http://h/ --only changed b.txt
+has_bytes b.txt 'http://h/a%7Cb\nhttp://c\nfile:///a%5B1%5D%20b\n'
+printf 'file:a[1] b\n' >"$room/files/b.txt"
+in_place 0 'urlcheck: 1 line, 1 mended (0 same, 0 escaped, 1 changed), 0 refused\n' --all-mended b.txt
+has_bytes b.txt 'file:///a%5B1%5D%20b\n'
 printf 'http://h/a|b\nhttp://h/ c\n' >"$room/files/b.txt"
 in_place 1 '' -q --only same b.txt
 has_bytes b.txt 'http://h/a|b\nhttp://h/%20c\n'
@@ -250,18 +268,44 @@ in_place 2 "urlcheck: none.txt: can't be read: there is no such file\nurlcheck: 
 has_bytes c.txt 'http://h/a%20b\n'
 in_place 2 "urlcheck: of: can't be read: it is a folder\n" -q of
 in_place 2 "urlcheck: '': can't be read: there is no such file\n" -q ''
+if has_file $'bad\377'; then
+    # (nor does a name that isn't UTF-8 keep the others from being mended; a base that isn't UTF-8 does)
+    printf 'http://h/a b\n' >"$room/files/c.txt"
+    cp "$room/files/c.txt" "$room/files/"$'bad\377'
+    in_place 2 "urlcheck: argument 3 isn't UTF-8\nurlcheck: 1 line, $one, 0 refused\n" $'bad\377' c.txt
+    has_bytes c.txt 'http://h/a%20b\n'
+    has_bytes $'bad\377' 'http://h/a b\n'
+    in_place 2 "urlcheck: argument 4 isn't UTF-8\nwords\n" --base $'\377' c.txt
+    rm "$room/files/"$'bad\377'
+fi
+# (a pipe and a device end at once)
 mkfifo "$room/files/pipe"
-in_place 2 "urlcheck: pipe: can't be written; it stays as it was\n" -q pipe
+for special in pipe /dev/null; do
+    (cd "$room/files" && timeout 20 "$program" mend -qi $special) >"$room/out" 2>"$room/err"
+    ends_with 2 $? "urlcheck: $special: can't be written: it is no ordinary file; it stays as it was\n" "mend --in-place of $special"
+done
 rm "$room/files/pipe"
-# (a new file of that name is nobody's to overwrite; one may not be written, or not grow as large)
+# (a file or a link of a new file's name is nobody's to overwrite: it is named, and the file is mended next to it)
 printf 'http://h/a b\n' >"$room/files/c.txt"
-echo other >"$room/files/c.txt.urlcheck-new"
+ln -s of/real.txt "$room/files/c.txt.urlcheck-new"
+echo other >"$room/files/c.txt.urlcheck-new-2"
+left="left by an interrupted run; remove it if no other run is going on"
+named="urlcheck: $(realpath "$room")/files/c.txt.urlcheck-new"
 (cd "$room/files" && "$program" mend -qi c.txt) >"$room/out" 2>"$room/err"
-ends_with 2 $? "urlcheck: c.txt: can't be written: a file of this name with .urlcheck-new at its end exists; it stays as it was\n" \
-    'mend --in-place beside a new file'
+ends_with 0 $? "$named: $left\n$named-2: $left\n" 'mend --in-place beside new files'
+has_bytes c.txt 'http://h/a%20b\n'
+has_bytes c.txt.urlcheck-new-2 'other\n'
+has_bytes of/real.txt 'http://h/a%20b\n'
+[ -L "$room/files/c.txt.urlcheck-new" ] || fail 'mend --in-place beside a link: the link is a file'
+# (nine of them are too many)
+printf 'http://h/a b\n' >"$room/files/c.txt"
+for number in 3 4 5 6 7 8 9; do echo other >"$room/files/c.txt.urlcheck-new-$number"; done
+(cd "$room/files" && "$program" mend -qi c.txt) >"$room/out" 2>"$room/err"
+ends_with 2 $? "$named: $left\n$(printf "$named-%d: $left\\\\n" 2 3 4 5 6 7 8 9)urlcheck: c.txt: can't be written: \
+interrupted runs left too many new files; it stays as it was\n" 'mend --in-place beside nine new files'
 has_bytes c.txt 'http://h/a b\n'
-has_bytes c.txt.urlcheck-new 'other\n'
-rm "$room/files/c.txt.urlcheck-new"
+rm "$room/files/c.txt.urlcheck-new"*
+# (one may not be written, or not grow as large)
 if has posix_modes 4; then
     # (the file's own path is found by the folders above it)
     chmod 711 "$room"
@@ -289,6 +333,25 @@ if has prlimit 2; then
     count=$((count + 1))
     cmp -s "$room/files/long.txt" "$room/long.old" || fail 'mend --in-place of a file too large: the file is another one'
     [ ! -e "$room/files/long.txt.urlcheck-new" ] || fail 'mend --in-place of a file too large: a new file is left'
+fi
+if has prlimit 8; then
+    # (what a run leaves that is killed before the first byte, and after many, has the file's mode, whatever the user's mask)
+    for row in 0,600 0,640 100000,600 100000,604; do
+        IFS=, read -r most mode <<<"$row"
+        cp "$room/long.old" "$room/files/long.txt"
+        chmod "$mode" "$room/files/long.txt"
+        { (cd "$room/files" && umask 0 && exec prlimit --fsize="$most" "$program" mend -qi long.txt) >"$room/out"; } 2>/dev/null
+        count=$((count + 1))
+        [ "$(stat -c '%a %s' "$room/files/long.txt.urlcheck-new")" = "$mode $most" ] ||
+            fail "mend --in-place of a file of mode $mode, killed: $(stat -c 'mode %a, %s bytes' "$room/files/long.txt.urlcheck-new")"
+        cmp -s "$room/files/long.txt" "$room/long.old" || fail 'mend --in-place that was killed: the file is another one'
+        # (the next run mends the file, and names what was left)
+        (cd "$room/files" && "$program" mend -qi long.txt) >"$room/out" 2>"$room/err"
+        ends_with 0 $? "urlcheck: $(realpath "$room")/files/long.txt.urlcheck-new: $left\n" 'mend --in-place after a run that was killed'
+        cmp -s "$room/files/long.txt" "$room/long.new" || fail 'mend --in-place after a run that was killed: it wrote other bytes'
+        [ "$(stat -c '%a %s' "$room/files/long.txt.urlcheck-new")" = "$mode $most" ] || fail 'mend --in-place wrote to what was left'
+        rm "$room/files/long.txt.urlcheck-new"
+    done
 fi
 # (ended at any moment, the file is the old one or the new one, whole)
 for wait in 0.001 0.005 0.01 0.02 0.05; do
@@ -334,14 +397,14 @@ fi
 "$program" mend --quiet <"$room/wanted" 2>"$room/err" | cmp -s - "$room/wanted" ||
     fail 'mend of mended lines: it wrote other bytes'
 
-answers_at_once 'mend of a live pipe' 'urn: N' 'urn:%20N' '' mend --quiet
+answers_at_once 'mend of a live pipe' 'foo: N' 'foo:%20N' '' mend --quiet
 
 # Streams that fail.
 printf 'http://h/a b\n' >"$room/list"
 counted='urlcheck: 1 line, 1 mended (1 same, 0 escaped, 0 changed), 0 refused\n'
 "$program" mend <"$room/list" >/dev/full 2>"$room/err"
 ends_with 3 $? "$no_space${counted}write\\n" 'mend of a list to a full device'
-(sleep 0.3; "$program" mend <"$room/list" 2>"$room/err"; echo $? >"$room/status") | true
+to_nobody "$program" mend <"$room/list"
 ends_with 3 "$(cat "$room/status")" '' 'mend of a list to a closed pipe'
 if has folder_input 1; then
     "$program" mend --quiet <"$room" >"$room/out" 2>"$room/err"
@@ -353,4 +416,4 @@ if has closed_streams 1; then
     ends_with 3 $? "${no_input}read\\n" 'mend with standard input closed'
 fi
 
-all_cases 185
+all_cases 234

@@ -9,24 +9,13 @@
 cd "$top"
 needs packages cc gcc objcopy pkg-config python3
 
-fail() {
-    echo "FAILED: $*"
-    exit 1
-}
-
-# quietly COMMAND.. : what it says is shown where it fails alone
-quietly() {
-    "$@" >"$room/said" 2>&1 || { cat "$room/said"; fail "$*"; }
-}
-
 version=$(cat VERSION)
-library=${LIBRARY:-$room/library}
-[ -n "${LIBRARY:-}" ] || quietly tools/build-library "$library"
+with_library
 root=$room/root
 prefix=/any/prefix
 at=$root$prefix
 export DESTDIR=$root PROGRAM=$program LIBRARY=$library
-# (the extensions for databases are partly beside the prefix: they are installed for themselves below)
+# (the extensions for databases are partly outside the prefix: they are installed for themselves below)
 ENGINES='' quietly ./install $prefix
 
 # ---- what is installed
@@ -52,7 +41,7 @@ print(*lost, sep="\n", end="\n" if lost else "")
 sys.exit(bool(lost) or not links)
 PYTHON
 cmp "$program" "$at/bin/urlcheck"
-for link in liburlcheck.so liburlcheck.so.0; do
+for link in liburlcheck.so liburlcheck.so.0.5; do
     [ "$(realpath "$at/lib/$link")" = "$(realpath "$at/lib")/liburlcheck.so.$version" ] ||
         fail "$link names another file"
 done
@@ -107,7 +96,7 @@ if command -v cmake >/dev/null; then
             fail "CMake finds version $wanted of the library"
     done
 else
-    echo "packages: CMake is left out, since it isn't installed"
+    left_out packages CMake "it isn't installed"
 fi
 # (the package finds the library that was installed with it)
 printf '<a href="http://x_y/">\n' >"$room/page.html"
@@ -128,32 +117,58 @@ if command -v twine >/dev/null; then
 it.build_wheel(sys.argv[1]); it.build_sdist(sys.argv[1])' "$room/wheels")
     quietly twine check --strict "$room"/wheels/*
 else
-    echo "packages: the wheel's metadata are left out, since twine isn't installed"
+    left_out packages "the wheel's metadata" "twine isn't installed"
 fi
 if command -v man >/dev/null; then
     man --warnings -E UTF-8 -l "$at/share/man/man1/urlcheck.1" >"$room/page.txt" 2>"$room/said"
     [ ! -s "$room/said" ] || { cat "$room/said"; fail "the manual page has warnings"; }
     grep -q '^NAME' "$room/page.txt" || fail "the manual page has no NAME"
 else
-    echo "packages: the manual page isn't shown, since man isn't installed"
+    left_out packages 'the manual page' "man isn't installed"
 fi
 
 # ---- the shared library
 
 awk '/^URLCHECK_/ { node = $1 } /^ *urlcheck_[a-z_0-9]*;$/ { print substr($1, 1, length($1) - 1) "@@" node }' \
     bindings/c/library.map | sort >"$room/wanted"
-declared=$(grep -o '\burlcheck_[a-z_0-9]*(' bindings/c/include/urlcheck.h | tr -d '(' | sort)
+declared=$(grep -o '\burlcheck_[a-z_0-9]*(' bindings/c/include/urlcheck.ffi.h | tr -d '(' | sort)
 [ "$declared" = "$(sed 's/@@.*//' "$room/wanted")" ] ||
-    fail "bindings/c/library.map has other names than bindings/c/include/urlcheck.h"
+    fail "bindings/c/library.map has other names than bindings/c/include/urlcheck.ffi.h"
 nm -D --defined-only --with-symbol-versions "$at/lib/liburlcheck.so" | awk '$2 != "A" { print $3 }' | sort \
     >"$room/found"
 diff "$room/wanted" "$room/found" || fail "the library exports other names than bindings/c/library.map"
-objdump -p "$at/lib/liburlcheck.so" | grep -q 'SONAME *liburlcheck\.so\.0$' || fail "the library has another SONAME"
+objdump -p "$at/lib/liburlcheck.so" | grep -q 'SONAME *liburlcheck\.so\.0\.5$' || fail "the library has another SONAME"
+# Only the name of this series stands in what is read or run, and a program that was linked with an earlier one isn't started:
+# the loader names what it misses, even if somebody gives this library the earlier name.
+if grep -rnE 'liburlcheck(\.so\.)?[0-9]' README.md docs bindings release | grep -vE 'liburlcheck(\.so\.)?0\.5([^0-9]|$)'; then
+    fail "another series of the library is named"
+fi
+mkdir "$room/earlier"
+printf 'unsigned urlcheck_version(void) { return 400; }\n' >"$room/earlier/library.c"
+printf 'unsigned urlcheck_version(void);\nint main(void) { return urlcheck_version() != 400; }\n' >"$room/earlier/program.c"
+printf 'URLCHECK_0.4 { global: urlcheck_version; local: *; };\n' >"$room/earlier/map"
+gcc -shared -fPIC "$room/earlier/library.c" -Wl,--version-script="$room/earlier/map" -Wl,-soname,liburlcheck.so.0 \
+    -o "$room/earlier/liburlcheck.so.0"
+gcc "$room/earlier/program.c" "$room/earlier/liburlcheck.so.0" -o "$room/earlier/program"
+LD_LIBRARY_PATH=$room/earlier "$room/earlier/program" || fail "a program that was linked with 0.4, next to 0.4"
+# refused_by_loader FOLDER WORDS : the program isn't started over the libraries of the folder, and the loader says why
+refused_by_loader() {
+    local status=0
+    LD_LIBRARY_PATH=$1 "$room/earlier/program" 2>"$room/said" || status=$?
+    if [ $status = 0 ] || [ $status -ge 128 ] || ! grep -qF "$2" "$room/said"; then
+        fail "a program that was linked with 0.4 ends with $status: $(cat "$room/said")"
+    fi
+}
+refused_by_loader "$at/lib" 'liburlcheck.so.0: cannot open shared object file'
+mkdir "$room/renamed"
+ln -s "$at/lib/liburlcheck.so.0.5" "$room/renamed/liburlcheck.so.0"
+refused_by_loader "$room/renamed" "version \`URLCHECK_0.4' not found"
+
 if command -v qemu-x86_64 >/dev/null; then
     { LD_LIBRARY_PATH=$at/lib qemu-x86_64 -cpu qemu64 "$room/page" || [ $? = 1 ]; } | cmp - "$room/page.c.out" ||
         fail "the program in C on an old processor"
 else
-    echo "packages: no old processor is tried, since qemu-x86_64 isn't installed"
+    left_out packages 'an old processor' "qemu-x86_64 isn't installed"
 fi
 
 # ---- the header
@@ -165,7 +180,7 @@ cp "$room/header.c" "$room/header.cpp"
 strict=(-Wall -Wextra -Wpedantic -Wundef -Wconversion -Wshadow -Werror -fsyntax-only -I "$at/include")
 count=0
 for compiler in gcc clang g++ clang++; do
-    command -v $compiler >/dev/null || { echo "packages: no header by $compiler, which isn't installed"; continue; }
+    command -v $compiler >/dev/null || { left_out packages "the header by $compiler" "it isn't installed"; continue; }
     standards=(c89 c99 c11 c17 c2x) file=$room/header.c
     case $compiler in *++) standards=(c++98 c++11 c++14 c++17 c++20 c++2b) file=$room/header.cpp ;; esac
     for standard in "${standards[@]}"; do
@@ -195,7 +210,7 @@ it.build_wheel(sys.argv[1]); it.build_sdist(sys.argv[1])' "$folder.out")
     PYTHONPATH=$room/site "$room/site/bin/urlcheck-documents" --version >"$room/said" || fail "the wheel's urlcheck-documents"
     grep -qF "$version" "$room/said" || fail "the wheel's urlcheck-documents says: $(cat "$room/said")"
 else
-    echo "packages: the wheel is left out, since pip isn't installed"
+    left_out packages 'the wheel' "pip isn't installed"
 fi
 
 # ---- the extensions for databases, where their headers are
@@ -204,7 +219,7 @@ quietly ./install $prefix
 found=()
 if [ -f "$at/lib/mod_urlcheck.so" ]; then
     found+=(SQLite)
-    [ "$(objdump -p "$at/lib/mod_urlcheck.so" | sed -n 's/^ *NEEDED *\(liburlcheck.*\)/\1/p')" = liburlcheck.so.0 ] ||
+    [ "$(objdump -p "$at/lib/mod_urlcheck.so" | sed -n 's/^ *NEEDED *\(liburlcheck.*\)/\1/p')" = liburlcheck.so.0.5 ] ||
         fail "the extension for SQLite isn't linked with the shared library"
     if command -v sqlite3 >/dev/null; then
         LD_LIBRARY_PATH=$at/lib sqlite3 -init /dev/null -batch :memory: '.load mod_urlcheck' \
@@ -227,6 +242,24 @@ left=$(find "$root" -mindepth 1)
 [ -z "$left" ] || fail "what is left once it is removed: $left"
 if ./install --uninstall $prefix 2>"$room/said"; then fail "what isn't installed is removed"; fi
 if ./install --other 2>"$room/said"; then fail "another option is taken"; fi
+
+bash tests/runs/packages/install.sh "$program" "$library" || fail "tests/runs/packages/install.sh"
+
+# ---- the size that Debian's package says, wherever its tree is
+
+for folder in "$room" /dev/shm; do
+    [ -w "$folder" ] || { echo "packages: no size of a package in $folder, which can't be written"; continue; }
+    sized=$(mktemp -d -p "$folder")
+    mkdir -p "$sized/DEBIAN" "$sized/usr/bin"
+    head -c 9999 /dev/zero >"$sized/DEBIAN/control"
+    : >"$sized/usr/empty"
+    for size in 1 1024 1025; do head -c "$size" /dev/zero >"$sized/usr/bin/$size"; done
+    ln -s 1 "$sized/usr/bin/link"
+    told=$(. tools/builds.sh; installed_size "$sized")
+    rm -r "$sized"
+    # (1, 1 and 2 KiB for the files, and 1 for the link and for each of the folders usr and bin)
+    [ "$told" = 7 ] || fail "a package in $folder has $told KiB, and not 7"
+done
 
 # ---- the package for JavaScript, whose program `npx` runs
 
@@ -278,7 +311,7 @@ lacks=
 for tool in node npm npx wasm-opt; do command -v "$tool" >/dev/null || lacks=$tool; done
 [ -n "$lacks" ] || [ "$(node -p 'process.versions.node.split(".")[0] >= 18')" = true ] || lacks='node from version 18 on'
 if [ -n "$lacks" ]; then
-    echo "packages: the package for JavaScript is left out, since $lacks isn't installed"
+    left_out packages 'the package for JavaScript' "$lacks isn't installed"
 else
     page=${PAGE:-$room/module}
     [ -n "${PAGE:-}" ] || quietly tools/build-page "$page"

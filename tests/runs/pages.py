@@ -1,5 +1,5 @@
 #!/usr/bin/env python3
-"""Checks the pages of this repository: those at its top, those of docs/ and its folders, and each folder's README.md.
+"""Checks the pages of this repository: at its top, in docs/ and its folders, and each folder's README.md.
 
     tests/runs/pages.py texts [TOP]               lengths, links, paths and names; no program is needed
     tests/runs/pages.py commands PROGRAM [TOP]    runs each block of `console` commands, and compares what they print
@@ -146,33 +146,20 @@ def check_index(top, pages, texts, wrong):
 
 INDEX = pathlib.Path("docs/README.md")
 PROVED = pathlib.Path("docs/PROVED.md")
-CONTRACTS = pathlib.Path("docs/contracts.md")
 LIBRARY = pathlib.Path("docs/LIBRARY.md")
 HISTORY = pathlib.Path("CHANGELOG.md")
 
 
-def rows_of(section):
-    """The rows of the tables of a section: the words of code in the first cell, and those in the second."""
-    for line in section.split("\n"):
-        cells = [cell.strip() for cell in line.strip().strip("|").split("|")]
-        if line.startswith("|") and len(cells) > 1 and not set(cells[0]) <= set("- :"):
-            yield re.findall(r"`([^`]+)`", cells[0]), re.findall(r"`([^`]+)`", cells[1]) if len(cells) > 2 else []
+def contracts_of(top):
+    """The names of the clauses of each function with a contract, by its crate and its name."""
+    listed = subprocess.run([top / "tools" / "make-contracts", top], capture_output=True, text=True, check=True).stdout
+    rows = [line.split("\t") for line in listed.splitlines()]
+    return {(crate, name.split("::")[-1]): clauses.split() for crate, name, clauses, _, _ in rows}
 
 
-def contracts_of(text):
-    """The rows of docs/contracts.md: the names of the clauses of each function, by its crate and its name."""
-    sections = re.split(r"^## `(\w+)`$", text, flags=re.M)
-    return {
-        (crate, name.split("::")[-1]): clauses
-        for crate, section in zip(sections[1::2], sections[2::2])
-        for names, clauses in rows_of(section)
-        for name in names
-    }
-
-
-def check_claims(top, text, contracts, wrong):
-    """Each row of docs/PROVED.md names functions and clauses of docs/contracts.md, and its command that function."""
-    known = contracts_of(contracts)
+def check_claims(top, text, wrong):
+    """Each row of docs/PROVED.md names functions and clauses that tools/make-contracts lists, and its command that function."""
+    known = contracts_of(top)
     claims = re.findall(r"^\|(?: [^|]* \|)? `(\w+)` \| (`[^|]*`) \|([^|]*)\|(.*)\|$", text, flags=re.M)
     for crate, functions, clauses, rest in claims:
         for function in re.findall(r"`(\w+)`", functions):
@@ -189,6 +176,18 @@ def check_claims(top, text, contracts, wrong):
                 wrong.append("{}: no function {} is in {}".format(PROVED, path, crate))
     if len(claims) < 10:
         wrong.append("{}: there are {} rows of claims alone".format(PROVED, len(claims)))
+
+
+def check_quotes(top, text, wrong):
+    """Each clause that docs/PROVED.md quotes is one of the code."""
+    files = sorted((top / "crates").glob("*/src/**/*.rt"))
+    code = " ".join(" ".join(file.read_text(encoding="utf-8").split()) for file in files)
+    clauses = re.split(r"^(?=ensures )", "\n".join("\n".join(lines) for _, _, lines in blocks_of(text)), flags=re.M)[1:]
+    for clause in clauses:
+        if " {} ".format(" ".join(clause.split())) not in code:
+            wrong.append("{}: no function has the clause {}".format(PROVED, clause.strip()))
+    if len(clauses) < 7:
+        wrong.append("{}: it quotes {} clauses alone".format(PROVED, len(clauses)))
 
 
 def check_lengths(top, text, wrong):
@@ -229,7 +228,7 @@ def words_of_code(top):
 
 
 def names_before(text):
-    """The names of earlier versions: those of the first column of a table that begins with `Until`."""
+    """The names of earlier versions: the first column of a table that begins with `Until`."""
     tables = re.findall(r"^\| Until .*\n\|[-|]*\n((?:\|.*\n)*)", text, flags=re.M)
     return {name for table in tables for row in table.splitlines() for name in re.findall(r"\w+", row.split("|")[1])}
 
@@ -280,7 +279,8 @@ def check_texts(top):
         check_paths(top, page, text, wrong)
     check_readme(top, texts[pathlib.Path("README.md")], wrong)
     check_index(top, pages, texts, wrong)
-    check_claims(top, texts[PROVED], texts[CONTRACTS], wrong)
+    check_claims(top, texts[PROVED], wrong)
+    check_quotes(top, texts[PROVED], wrong)
     check_lengths(top, texts[PROVED], wrong)
     if HEADLINE not in re.sub(r"\s+", " ", texts[PROVED]):
         wrong.append("{}: the headline isn't there, word for word".format(PROVED))

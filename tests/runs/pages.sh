@@ -23,7 +23,7 @@ for picture in profiles:docs/profiles.py speed:bench/plot.sh; do
         *) bash "$top/${words[0]}" "${words[@]:1}" ;;
     esac >"$room/drawn.svg" || true
     [ -s "$room/drawn.svg" ] && cmp -s "$room/drawn.svg" "$top/docs/${picture%:*}.svg" ||
-        { echo "FAILED: docs/${picture%:*}.svg is old; ${picture#*:} draws it anew, on standard output"; failed=1; }
+        { echo "FAILED: docs/${picture%:*}.svg is old; ${picture#*:} draws it again, on standard output"; failed=1; }
 done
 
 # The page of each rule is what tools/make-rules makes of it.
@@ -34,7 +34,7 @@ else
     echo "pages: that docs/rules is as tools/make-rules makes it is left out, since node isn't installed"
 fi
 
-# The list of contracts is what tools/make-contracts makes of the sources.
+# Each public function that isn't about words has a contract, and each contract a sentence.
 "$top/tools/make-contracts" --check || failed=1
 
 # The checks, each with its words.
@@ -76,10 +76,11 @@ spoiled 'a path to nowhere' 'librarian' "$texts" docs/TRUST.md 's/runs\/library.
 spoiled 'a name of no function' 'no `fault_list`' "$texts" docs/PROVED.md 's/| `faults` |/| `fault_list` |/'
 spoiled 'a clause that is none' 'no clause `reported`' "$texts" docs/PROVED.md 's/| `run_links` | `report`/| `run_links` | `reported`/'
 spoiled 'a command for no function' 'no function checks::check' "$texts" docs/PROVED.md 's/--only checker::check/--only checks::check/'
+spoiled 'another clause' 'no function has the clause' "$texts" docs/PROVED.md 's/{ IsDecided (/{ IsDone (/'
 spoiled 'another length of a definition' 'Valid.antt has' "$texts" docs/PROVED.md 's/Valid.antt` (23/Valid.antt` (13/'
-spoiled 'a contract that the list lacks' 'contracts.md is old' "$contracts" docs/contracts.md '/^| `faults` |/d'
-spoiled 'a clause of another name' 'contracts.md is old' "$contracts" crates/uv_grammar/src/checker.rt 's/ensures answer {/ensures answered {/'
-spoiled 'a contract that is taken away' 'contracts.md is old' "$contracts" crates/uv_grammar/src/laws.rt '/ensures { PartsAreTheText }/d'
+spoiled 'a clause of another name' 'has no clause `answer`' "$texts" crates/uv_grammar/src/checker.rt 's/ensures answer {/ensures answered {/'
+spoiled 'a contract that is taken away' 'has no contract' "$contracts" crates/uv_grammar/src/laws.rt '/ensures { PartsAreTheText }/d'
+spoiled 'a contract without a sentence' 'no comment says what it is' "$contracts" crates/uv_grammar/src/laws.rt '/^ *\/\/\//d'
 spoiled 'a name of nothing' 'the name of nothing' "$texts" docs/ARCHITECTURE.md \
     's/`links::plain::plain_rest`/`links::plain::plain_''nest`/'
 spoiled 'no word on a function for C' 'no word on `urlcheck_next_refused`' "$texts" docs/LIBRARY.md '/`urlcheck_next_refused`/d'
@@ -89,11 +90,12 @@ spoiled 'a link that is no URL string' 'a link of the pages' "$commands" docs/gu
 spoiled 'a page that the navigation lacks' 'its navigation has no' "$texts" mkdocs.yml '/guides\/hook.md/d'
 spoiled 'a long sentence' 'a sentence of ' "$prose" docs/START.md \
     '$a A word and another one, '"$(printf 'and one more %.0s' {1..12})"'at the end.'
-spoiled 'an odd sentence' "'is no ..': write isn't a" "$prose" docs/guides/rattle.md '$a A page is no place for notes, as everyone knows.'
-spoiled 'a row of short sentences' 'sentences in a row of at most' "$prose" docs/guides/rattle.md \
+spoiled 'an odd sentence' "'is no ..': write isn't a" "$prose" docs/guides/mkdocs.md '$a A page is no place for notes, as everyone knows.'
+spoiled 'a row of short sentences' 'sentences in a row of at most' "$prose" docs/guides/mkdocs.md \
     '$a A page is short. Its words are few. Nobody reads it.'
-spoiled 'a word that the pages avoid' "the pages avoid 'judges'" "$prose" docs/QUESTIONS.md 's/finds the links in HTML/judges the links in HTML/'
+spoiled 'a word that the pages avoid' "the pages avoid 'judges'" "$prose" docs/QUESTIONS.md 's/finds \[the links/judges [the links/'
 spoiled 'a message with such a word' "a message has 'judges'" "$prose" crates/uv_messages/src/hints.rt 's/TEXT checks one text/TEXT judges one text/'
+spoiled 'an odd message' "'is no ..': write isn't a" "$prose" docs/share/man/urlcheck-language-server.1 '$a This is no message.'
 spoiled 'no table of avoided words' 'the table of avoided words is missing' "$prose" CONTRIBUTING.md '/^| `/d'
 spoiled 'no word on who needs a page' "doesn.t say who needs it" "$prose" docs/guides/hook.md 's/^For a repository/A repository/'
 spoiled 'a long guide' 'a guide has at most' "$prose" docs/guides/mend.md 's/$/\n\n/'
@@ -101,6 +103,7 @@ spoiled 'a long guide' 'a guide has at most' "$prose" docs/guides/mend.md 's/$/\
     spoiled 'a slip of the pen' 'recieve ==> receive' "$prose" docs/INSTALL.md '$a You recieve it.'
 spoiled 'another figure in a table' 'the row should be' bench/figures.py docs/SPEED.md 's/^| plain | [0-9]* |/| plain | 343 |/'
 spoiled 'another figure in a sentence' 'the figures of' bench/figures.py README.md 's/costs 0[.][0-9]* times the/costs 0.01 times the/'
+spoiled "another bound than the gate's" 'the figures of' bench/figures.py docs/SPEED.md 's/at most 650 in/at most 640 in/'
 spoiled 'a stored output that says otherwise' 'the figures of' bench/figures.py bench/verdicts/mixed.txt 's/^check: [0-9]*/check: 999/'
 spoiled 'no notice of a crate' 'no row for idna' "$texts" NOTICE '/^idna /d'
 spoiled 'another headline' 'the headline' "$texts" docs/PROVED.md 's/in at most 3n + 16 steps/in at most 2n + 5 steps/'

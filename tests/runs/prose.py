@@ -1,6 +1,7 @@
 #!/usr/bin/env python3
 """How the pages read: forms that a native writer would change, long sentences and rows of short ones, words that
-CONTRIBUTING.md avoids, first lines, lengths, and spelling. The messages of the programs avoid these words too.
+CONTRIBUTING.md avoids, first lines, lengths, and spelling. The messages of the programs avoid these words too, and those
+forms are looked for in the messages of the Python package and in the manual pages that are written by hand.
 
     tests/runs/prose.py [TOP]            sees that each page keeps to the limits below; 1 where one doesn't
     tests/runs/prose.py --table [TOP]    writes a row for each page: its words, its sentences, and what they are allowed
@@ -50,6 +51,10 @@ GUIDE_LINES = 120
 AVOIDED = pathlib.Path("CONTRIBUTING.md")
 # How the first line of a page begins, by its section in docs/README.md.
 FIRST_LINES = {"Start": "For ", "Guides": "For ", "Reference": "Reference for ", "Background": "For "}
+# The manual pages that aren't made from the help of the program.
+MANUALS = ("urlcheck-documents.1", "urlcheck-language-server.1")
+# Messages that the program `urlcheck` has too, and the first line of a file that older versions wrote.
+KEPT = ("a part of its path is no folder", "# urlcheck baseline 1: faults that are known, one a line")
 # What pages are allowed beyond this, and why: how many longer sentences, and how many avoided words.
 HISTORY = "what a version said isn't rewritten"
 ALLOWED = {
@@ -93,7 +98,7 @@ def odd_in(sentences):
 
 
 def short_rows(text):
-    """Where several short sentences follow each other in one paragraph: the line of the paragraph, and the first one."""
+    """Finds several short sentences that follow each other in one paragraph: the line of the paragraph, and the first one."""
     for line, unit in pages.units_of(text):
         row = 0
         for sentence in pages.sentences_of(unit):
@@ -135,6 +140,22 @@ def check_messages(top, pattern, wrong):
             wrong.append("{}: a message has '{}', which the pages avoid".format(file.relative_to(top), word))
 
 
+def words_of_manual(file):
+    """The paragraphs of a manual page, without its macros."""
+    text = re.sub(r"^\.[A-Z]+ ?", "", file.read_text(encoding="utf-8").replace("\\-", "-"), flags=re.M)
+    return re.split(r"\n\s*\n|\nPP\n", text)
+
+
+def check_forms(top, wrong):
+    """The forms that make a sentence odd, in messages and manual pages."""
+    files = sorted((top / "bindings/python/urlcheck").rglob("*.py")) + [top / "docs/share/man" / name for name in MANUALS]
+    for file in files:
+        texts = messages_of(file) if file.suffix == ".py" else words_of_manual(file)
+        for text in texts:
+            units = [] if text.strip() in KEPT else sentences_of(re.sub(r"\s+", " ", text))
+            wrong += ["{}: {}: {} ..".format(file.relative_to(top), advice, it[:60]) for _, it, advice in odd_in(units)]
+
+
 def allowed_of(page):
     """How many longer sentences and avoided words a page may have, and why."""
     for name, allowance in ALLOWED.items():
@@ -169,7 +190,7 @@ def check_form(top, page, text, kind, wrong):
 
 
 def check_page(page, text, pattern, wrong):
-    """The sentences and words of a page, beside what it is allowed."""
+    """The sentences and words of a page, and what it is allowed."""
     long_ones, words_allowed, reason = allowed_of(page)
     sentences = sentences_of(text)
     mean = sum(words for _, _, words in sentences) / max(1, len(sentences))
@@ -211,8 +232,7 @@ def main():
         sys.exit(__doc__)
     top = pathlib.Path(rest[0]).resolve() if rest else pathlib.Path(__file__).resolve().parents[2]
     pattern, wrong, kinds = avoided(top), [], kinds_of(top)
-    # (a page that is made from comments is read as those are)
-    found = [page for page in pages.pages_of(top) if page != pages.CONTRACTS]
+    found = pages.pages_of(top)
     means, most, longer, avoided_words = [], 0, 0, 0
     for page in found:
         text = (top / page).read_text(encoding="utf-8")
@@ -225,6 +245,7 @@ def main():
             print(row.format(str(page), len(text.split()), mean, longest, over, MOST_WORDS, words_found, allowed_of(page)[2]))
     check_spelling(top, found, wrong)
     check_messages(top, pattern, wrong)
+    check_forms(top, wrong)
     for line in wrong:
         print("FAILED: " + line)
     print("prose: {} pages, {:.1f} to {:.1f} words a sentence".format(len(found), min(means), max(means)))

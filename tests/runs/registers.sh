@@ -1,24 +1,13 @@
 #!/usr/bin/env bash
 # Runs the checker inside PostgreSQL, SQLite, DuckDB, Python's columns and a cluster, and compares each with the program
 # given as the first argument. What isn't installed is left out, and a line says so. LIBRARY may name a folder that
-# tools/build-library wrote. A word after the program names the part to run alone.
+# tools/build-library wrote, and NEWER one with a newer Debian's DuckDB. A word after the program names the only part to run.
 . "$(dirname "$(realpath "$0")")/start.sh"
 needs registers cc gcc make objcopy python3
-library=${LIBRARY:-$room/library}
-[ -n "${LIBRARY:-}" ] || "$top/tools/build-library" "$library" >"$room/built" 2>&1 || { cat "$room/built"; exit 1; }
+with_library
 export PYTHONDONTWRITEBYTECODE=1 PYTHONPATH=$library/python
 parts=(postgresql sqlite duckdb columns cluster)
 [ $# = 1 ] || parts=("${@:2}")
-
-fail() {
-    echo "FAILED: $*"
-    exit 1
-}
-
-# quietly COMMAND.. : what it says is shown where it fails alone
-quietly() {
-    "$@" >"$room/said" 2>&1 || { cat "$room/said"; fail "$*"; }
-}
 
 # The cases of all vectors, each with what the library says of it in three profiles.
 cases=$room/cases

@@ -58,7 +58,7 @@ in_sarif 'two results' "a b/"$'\xc3\xa9.md' <<'ROWS'
 /runs/0/invocations/0/toolExecutionNotifications
 ROWS
 rm -r "$room/a b"
-printf 'a b:3:40:http://h/a b\nf:4:1:urn:a b\nf:5:1:http:a\nf:6:1:http://a_b/\n' >"$room/list"
+printf 'a b:3:40:http://h/a b\nf:4:1:foo:a b\nf:5:1:http:a\nf:6:1:http://a_b/\n' >"$room/list"
 in_sarif 'fixes' --located --base http://h/ list <<'ROWS'
 /runs/0/results/0/locations/0/physicalLocation/region {"endColumn": 51, "startColumn": 50, "startLine": 3}
 /runs/0/results/0/fixes/0/description/text "write the same URL as a valid URL string"

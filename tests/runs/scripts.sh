@@ -1,10 +1,12 @@
 #!/usr/bin/env bash
-# Sees that each script of this repository can be read, without running it: shell by bash and shellcheck, Python by its
-# parser, JavaScript by node; and that each file which begins with `#!` may be executed. It needs no program. What isn't
-# installed is left out, with a line.
+# Sees that each script of this repository can be read: shell by bash and shellcheck, Python by its parser, JavaScript by node; and
+# that each file which begins with `#!` may be executed. Then runs those that build, with a toolchain that proves nothing. It needs
+# no program. What isn't installed is left out, with a line.
 set -euo pipefail
 cd "$(dirname "$(realpath "$0")")/../.."
 failed=0
+room=$(mktemp -d)
+trap 'rm -rf "$room"' EXIT
 
 fail() {
     echo "FAILED: $*"
@@ -51,5 +53,8 @@ if command -v node >/dev/null; then
 else
     echo "scripts: JavaScript is left out, since node isn't installed"
 fi
+python3 tests/runs/scripts/schedule.py >"$room/said" 2>&1 || { cat "$room/said"; fail 'what builds expect of a machine and of crates'; }
+bash tests/runs/scripts/builds.sh || fail 'the builds'
+python3 tests/runs/scripts/edits.py >"$room/said" 2>&1 || { cat "$room/said"; fail 'what wrong edits are and what is told of them'; }
 echo "scripts: ${#shells[@]} for a shell, ${#pythons[@]} in Python and ${#javascripts[@]} in JavaScript"
 exit $failed

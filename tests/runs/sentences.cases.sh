@@ -47,29 +47,54 @@ PYTHON
 says <<'ROWS'
 no-scheme| https://a/|U+0020 SPACE is before the scheme; leave it out
 no-scheme|\xc2\xa0https://a/|U+00A0 is before the scheme; leave it out
-no-scheme|"https://a/"|U+0022 QUOTATION MARK is before the scheme; leave it out
-no-scheme|(mailto:a%40b)|U+0028 LEFT PARENTHESIS is before the scheme; leave it out
-no-scheme|\xe2\x80\x9curn:a\xe2\x80\x9d|U+201C \xe2\x80\x9c is before the scheme; leave it out
+no-scheme|"https://a/|U+0022 QUOTATION MARK is before the scheme; leave it out
+no-scheme|\xc2\xabhttp://h/|U+00AB \xc2\xab is before the scheme; leave it out
+no-scheme|\xe2\x80\x98http://h/|U+2018 \xe2\x80\x98 is before the scheme; leave it out
+no-scheme|\xe2\x80\x9curn:a|U+201C \xe2\x80\x9c is before the scheme; leave it out
+no-scheme|[http://h/|U+005B LEFT SQUARE BRACKET is before the scheme; leave it out
+no-scheme|`http://h/|U+0060 GRAVE ACCENT is before the scheme; leave it out
+no-scheme|"https://a/"|the link is in quotation marks; leave both of them out
+no-scheme|'https://e.com/'|the link is in quotation marks; leave both of them out
+no-scheme|\xe2\x80\x9curn:a\xe2\x80\x9d|the link is in quotation marks; leave both of them out
+no-scheme|\xe2\x80\x98urn:a\xe2\x80\x99|the link is in quotation marks; leave both of them out
+no-scheme|\xc2\xaburn:a\xc2\xbb|the link is in quotation marks; leave both of them out
+no-scheme|(mailto:a%40b)|the link is in parentheses; leave both of them out
+no-scheme|<https://a/>|the link is in angle brackets; leave both of them out
+no-scheme|[https://a/]|the link is in square brackets; leave both of them out
+no-scheme|`https://a/`|the link is in backticks; leave both of them out
 no-scheme|"a"|there is no scheme and no base
 no-scheme|(1:2)|there is no scheme and no base
-no-scheme|http//a/b|there is no scheme and no base; write : after the scheme
-no-scheme|FILE///a|there is no scheme and no base; write : after the scheme
+no-scheme|http//a/b|there is no scheme and no base; a colon is missing after http
+no-scheme|FILE///a|there is no scheme and no base; a colon is missing after FILE
+no-scheme|https//:example.com|there is no scheme and no base; write :// in place of //:
+no-scheme|https;//e.com|there is no scheme and no base; U+003B SEMICOLON is in place of a colon
+no-scheme|http\xef\xbc\x9a//e.com/|there is no scheme and no base; U+FF1A \xef\xbc\x9a is in place of a colon
+no-scheme|http;/e.com|there is no scheme and no base
 no-scheme|foo//a|there is no scheme and no base
-no-scheme|//h:80a/|there is no scheme and no base; write https: before it, or name its base (--base)
-no-scheme|www.example.com|there is no scheme and no base; write https:// before a host, or name its base (--base)
-no-scheme|example.com/a b|there is no scheme and no base; write https:// before a host, or name its base (--base)
-no-scheme|example.md/a|there is no scheme and no base; write https:// before a host, or name its base (--base)
-no-scheme|127.0.0.1?q|there is no scheme and no base; write https:// before a host, or name its base (--base)
-no-scheme|README.md|there is no scheme and no base; name its base (--base)
-no-scheme|index.html#top|there is no scheme and no base; name its base (--base)
-no-scheme|main.css|there is no scheme and no base; name its base (--base)
-no-scheme|v1.2.3|there is no scheme and no base; name its base (--base)
-no-scheme|./a b.html|there is no scheme and no base; name its base (--base)
-no-scheme|../a|there is no scheme and no base; name its base (--base)
-no-scheme|/a/b|there is no scheme and no base; name its base (--base)
-no-scheme|#top|there is no scheme and no base; name its base (--base)
-no-scheme|?q=1|there is no scheme and no base; name its base (--base)
+no-scheme|//h:80a/|there is no scheme and no base; write https: before it, or give the address of its page (--base)
+no-scheme|www.example.com|there is no scheme and no base; write https:// before a host, or give the address of its page (--base)
+no-scheme|example.com/a b|there is no scheme and no base; write https:// before a host, or give the address of its page (--base)
+no-scheme|example.md/a|there is no scheme and no base; write https:// before a host, or give the address of its page (--base)
+no-scheme|127.0.0.1?q|there is no scheme and no base; write https:// before a host, or give the address of its page (--base)
+no-scheme|localhost/a|there is no scheme and no base; write http:// before it
+no-scheme|127.0.0.1:8000|there is no scheme and no base; write http:// before it
+no-scheme|[::1]:80/|there is no scheme and no base; write http:// before it
+no-scheme|[x]/|there is no scheme and no base
+no-scheme|127.0.0.1:x|there is no scheme and no base
+no-scheme|[a](https://e.com/)|there is no scheme and no base; this looks like Markdown: check the link in it
+no-scheme|**https://e.com/**|there is no scheme and no base; this looks like Markdown: check the link in it
+no-scheme|README.md|there is no scheme and no base; give the address of its page (--base)
+no-scheme|index.html#top|there is no scheme and no base; give the address of its page (--base)
+no-scheme|main.css|there is no scheme and no base; give the address of its page (--base)
+no-scheme|v1.2.3|there is no scheme and no base; give the address of its page (--base)
+no-scheme|./a b.html|there is no scheme and no base; give the address of its page (--base)
+no-scheme|../a|there is no scheme and no base; give the address of its page (--base)
+no-scheme|/a/b|there is no scheme and no base; give the address of its page (--base)
+no-scheme|#top|there is no scheme and no base; give the address of its page (--base)
+no-scheme|?q=1|there is no scheme and no base; give the address of its page (--base)
 no-scheme|user\x40example.com|there is no scheme and no base; write mailto: before an address
+no-scheme|user_a\x40example.com|there is no scheme and no base; write mailto: before an address
+no-scheme|\x40example.com|there is no scheme and no base
 no-scheme|git\x40example.com:a/b.git|there is no scheme and no base; this looks like a path of ssh
 no-scheme|a_b.c/|there is no scheme and no base
 no-scheme|a b|there is no scheme and no base
@@ -98,16 +123,90 @@ code-point|https://h/?q=@@<a>&b|U+003C LESS-THAN SIGN $url$template
 code-point|https://h/@@<%= id %>|U+003C LESS-THAN SIGN $url$template
 code-point|https://h/@@[ID]|U+005B LEFT SQUARE BRACKET $url$template
 code-point|https://h/\$VERSION/a@@ b|U+0020 SPACE $url$template
+percent|https://h/@@%D{x}|U+0025 PERCENT SIGN has to be followed by two hex digits$template
 port-digit|https://h:@@{port}/|U+007B LEFT CURLY BRACKET is not allowed in a port$template
 port-digit|https://h:@@\$PORT/|U+0024 DOLLAR SIGN is not allowed in a port$template
 port-digit|https://h:@@port/|U+0070 LATIN SMALL LETTER P is not allowed in a port$template
 host-domain|https://@@{host}/x|U+007B LEFT CURLY BRACKET is not allowed in a domain$template
+host-domain|https://@@YOUR_DOMAIN/x|U+005F LOW LINE is not allowed in a domain$template
+host-domain|https://@@HOST_2:80/|U+005F LOW LINE is not allowed in a domain$template
 host-domain|https://@@%DOMAIN%/x|U+0025 PERCENT SIGN is not allowed in a domain$template
+ROWS
+# Each sign of a template and a link that shows it: the page has the same rows, and the program says so of each link. In code
+# only the first nine are such signs.
+cat >"$room/signs" <<'ROWS'
+{{ }}	https://h/{{ id }}
+{% %}	https://h/{% url %}
+${ }	https://h/${VAR}/a b
+<% %>	https://h/<%= id %>
+<?php	https://h/?id=<?php echo $id; ?>
+<?=	https://h/<?= $id ?>
+<!--#	https://h/<!--#echo var=X -->
+[% %]	https://h/[% url %]
+*|NAME|*	https://h/*|UNSUB|*
+{name}	https://h/{id}
+%s	https://h/%s.html
+%d	https://h/%d/x
+%(name)s	https://h/%(id)s
+%%NAME%%	https://h/%%PUBLIC URL%%
+%NAME%	https://h/%PUBLIC_URL%/x
+$NAME	https://h/$VERSION/a b
+$(name)	https://h/$(base)/x y
+<name>	https://h/v<id>/x
+[NAME]	https://h/[ID]
+[[ ]]	https://h/[[ url ]]
+|NAME|	https://h/|DATE|/a
+@NAME@	https://h/@URL@/a b
+@@ @@	https://h/@@X Y@@
+@(name)	https://h/@(Url) b
+@Name.Call()	https://h/@Url.Action('a', 'b c')
+host:port	http://h:port/
+HOST_NAME	https://HOST_NAME/a b
+ROWS
+python3 - "$room" "$here/../../docs/FORMATS.md" <<'PYTHON' || fail "signs of templates: $(cat "$room/wrong")"
+import re, sys
+room, page = sys.argv[1:]
+signs = [row.split("\t") for row in open(room + "/signs", encoding="utf-8").read().split("\n")[:-1]]
+table = open(page, encoding="utf-8").read().split("| Template | Example |\n|---|---|\n")[1].split("\n\n")[0].strip().split("\n")
+told = [[cell.replace("\\|", "|") for cell in re.fullmatch("[|] `(.*)` [|] `(.*)` [|]", row).groups()] for row in table]
+links = [link for _, link in signs]
+open(room + "/shown", "w", encoding="utf-8").write("\n".join(links + [it.replace("https://h/", "data:,") for it in links[:9]]) + "\n")
+code = [it.replace("https://h/", "data:,") for it in links[9:] if it.startswith("https://h/")]
+open(room + "/code", "w", encoding="utf-8").write("\n".join(code) + "\n")
+open(room + "/wrong", "w", encoding="utf-8").write("" if told == signs else f"the page has {told}")
+sys.exit(told != signs)
+PYTHON
+"$program" lint --quiet --format json "$room/shown" >"$room/out" 2>"$room/err"
+ends_with 1 $? '' 'links that show a template'
+[ "$(grep -c 'this looks like a template: check what it makes"' "$room/out")" = 36 ] || fail "links that show a template: $(cat "$room/out")"
+! grep '"offered":true' "$room/out" || fail 'a template is offered'
+"$program" lint --quiet --format json "$room/code" >"$room/out" 2>"$room/err"
+ends_with 1 $? '' 'code that looks like a template'
+! grep 'this looks like a template' "$room/out" || fail 'code is taken for a template'
+
+# An escape that is cut off isn't a template, and it has no other digit that somebody would guess.
+says <<ROWS
+percent|https://fr.wikipedia.org/wiki/Caf%C3@@%A|U+0025 PERCENT SIGN has to be followed by two hex digits; this escape is cut off
+percent|https://h/%D0%9F%D0@@%B|U+0025 PERCENT SIGN has to be followed by two hex digits; this escape is cut off
+percent|https://h/@@%4%20|U+0025 PERCENT SIGN has to be followed by two hex digits; this escape is cut off
+percent|https://h/@@%4?a|U+0025 PERCENT SIGN has to be followed by two hex digits
+percent|https://h/@@%|U+0025 PERCENT SIGN has to be followed by two hex digits
+ROWS
+says --base http://h/ <<ROWS
+code-point|@@ %C3%A|U+0020 SPACE $url
 ROWS
 # Texts with the same code points that aren't templates: JSON in a query, code, arrays in a query, a percentage.
 says <<ROWS
 code-point|https://h/?q=@@{"a":1}|U+007B LEFT CURLY BRACKET $url
+percent|https://x.org/100@@%sure|U+0025 PERCENT SIGN has to be followed by two hex digits
+percent|https://h/5@@%sale|U+0025 PERCENT SIGN has to be followed by two hex digits
+percent|https://h/%41@@%G|U+0025 PERCENT SIGN has to be followed by two hex digits
+code-point|https://h/?titles=NASA@@\0174ESA\0174JAXA|U+007C VERTICAL LINE $url
+code-point|https://h/\x40user.name/a@@ b|U+0020 SPACE $url
+code-point|https://h/\x40a(b)@@ c|U+0020 SPACE $url
 code-point|data:text/html,@@<p>x</p>|U+003C LESS-THAN SIGN $url
+code-point|data:image/svg+xml,@@<?xml?>|U+003C LESS-THAN SIGN $url
+code-point|javascript:\$('a')@@ |U+0020 SPACE $url
 code-point|javascript:f(@@{a})|U+007B LEFT CURLY BRACKET $url
 code-point|https://h/?a@@[id]=1|U+005B LEFT SQUARE BRACKET $url
 percent|https://h/@@%G1|U+0025 PERCENT SIGN has to be followed by two hex digits
@@ -124,7 +223,7 @@ no-scheme|<p>text</p>|there is no scheme and no base$html
 no-scheme|<a href="https://example.com/">|there is no scheme and no base$html
 no-scheme|<li><a href="a">b</a></li>|there is no scheme and no base$html
 no-scheme|</p>|there is no scheme and no base$html
-no-scheme|<https://h/a b>|U+003C LESS-THAN SIGN is before the scheme; leave it out
+no-scheme|<https://h/a b>|the link is in angle brackets; leave both of them out
 no-scheme|<p|there is no scheme and no base
 ROWS
 says --base http://h/ <<ROWS
@@ -157,6 +256,28 @@ code-point|https://a/@@ wwwb|U+0020 SPACE $url
 percent|https://h/@@%u00e9|U+0025 PERCENT SIGN has to be followed by two hex digits; %u isn't an escape of URLs: write those of UTF-8
 ROWS
 
+# A host and its port in place of a scheme, and a scheme that is likely misspelled.
+read_as='; what is before : is read as a scheme: write http:// before a host'
+perhaps='; perhaps http or https is meant'
+says <<ROWS
+code-point|localhost:8080/a@@ b|U+0020 SPACE $url$read_as
+code-point|LOCALHOST:80?a@@ b|U+0020 SPACE $url$read_as
+code-point|example.com:8080/a@@ b|U+0020 SPACE $url$read_as
+code-point|a-b.c1:80#@@ |U+0020 SPACE $url$read_as
+code-point|localhost:@@ a|U+0020 SPACE $url
+code-point|localhost:80x/a@@ b|U+0020 SPACE $url
+code-point|urn:80/a@@ b|U+0020 SPACE $url
+code-point|web+a.b:80/a@@ b|U+0020 SPACE $url
+code-point|htp://example.com/a@@ b|U+0020 SPACE $url$perhaps
+code-point|ttps://example.com/a@@ b|U+0020 SPACE $url$perhaps
+code-point|hhtp://example.com/a@@ b|U+0020 SPACE $url$perhaps
+host-code-point|htpps://a@@^/|U+005E CIRCUMFLEX ACCENT is not allowed in a host$perhaps
+code-point|https://example.com/a@@ b|U+0020 SPACE $url
+code-point|htp:a@@ b|U+0020 SPACE $url
+code-point|ssh://h/a@@ b|U+0020 SPACE $url
+code-point|sftp://h/a@@ b|U+0020 SPACE $url
+ROWS
+
 # What schemes require of a path; a query has no such rules.
 tel='; write a number without spaces, as in tel:+1-555-0100'
 says <<ROWS
@@ -167,6 +288,9 @@ code-point|mailto:a@@ b\x40h|U+0020 SPACE $url; write addresses as in mailto:a\x
 code-point|mailto:a\x40h?subject=a@@ b|U+0020 SPACE $url
 code-point|sip:a@@ b|U+0020 SPACE $url; write an address as in sip:a\x40example.com
 code-point|geo:1,@@ 2|U+0020 SPACE $url; write coordinates as in geo:48.2,16.3
+code-point|sips:a@@ b\x40h|U+0020 SPACE $url; write an address as in sip:a\x40example.com
+code-point|XMPP:a@@ b\x40h|U+0020 SPACE $url; write an address as in sip:a\x40example.com
+code-point|tel:+1#a@@ b|U+0020 SPACE $url
 code-point|urn:isbn:0@@ 451|U+0020 SPACE $url
 code-point|about:@@ blank|U+0020 SPACE $url; write a page as in about:blank
 code-point|view-source:https://a@@ b/|U+0020 SPACE $url; mend the link after view-source:
@@ -186,7 +310,21 @@ host-domain|http://@@x_y/ |U+005F LOW LINE $domain
 host-domain|http://@@100%.example/|U+0025 PERCENT SIGN $domain
 host-domain|http://@@*.example.com/|U+002A ASTERISK $domain
 host-domain|http://@@example.com,/|U+002C COMMA $domain
+host-domain|http://@@example.com,|U+002C COMMA $domain; leave it out
+host-domain|http://@@a,b,|U+002C COMMA $domain
+host-domain|http://@@example.com_|U+005F LOW LINE $domain$wide
 host-domain|http://@@exa mple.com/|U+0020 SPACE $domain
+host-domain|https://@@e.com">a</a>|U+0022 QUOTATION MARK $domain; this looks like HTML: check the link in it
+host-domain|file://@@~/x|U+007E TILDE $domain: write the whole path after file://
+host-domain|http://@@~/x|U+007E TILDE $domain
+host-domain|http://@@example.com\xef\xbc\x8fa|U+FF0F \xef\xbc\x8f is in place of /
+host-domain|http://@@h\xef\xbc\x9a80/|U+FF1A \xef\xbc\x9a is in place of :
+host-domain|http://@@a\xef\xbc\x81.b/|U+FF01 \xef\xbc\x81 is read as !, which $domain
+host-domain|http://@@\xef\xbc\xa1..b/|a label of this domain is empty
+host-domain|http://@@\xd7\x90a.com/|a label of this domain mixes right-to-left letters with Latin ones
+host-domain|http://@@b.\xd9\xa0example/|a label of this domain mixes right-to-left letters with Latin ones
+host-domain|http://@@\xd8\xa7\xd9\xb1\xd9\xaez.b/|a label of this domain mixes right-to-left letters with Latin ones
+host-domain|http://@@\xd7\x90.b..c/|a label of this domain is empty
 host-domain|http://@@a!..b|U+0021 EXCLAMATION MARK $domain
 host-domain|http://@@\xc3\xa9_/|U+005F LOW LINE $domain$wide
 host-domain|http://@@a..b/|a label of this domain is empty
@@ -195,7 +333,7 @@ host-domain|http://@@\xc3\xa9..b:80|a label of this domain is empty
 host-domain|http://@@.|a label of this domain is empty
 host-domain|http://@@b.$long./|a label of this domain has more than 63 code points
 host-domain|http://@@-a.example/|a label of this domain begins or ends with -$wide
-host-domain|http://@@a-:80/|a label of this domain begins or ends with -$wide
+host-domain|https://@@a-:80/|a label of this domain begins or ends with -$wide
 host-domain|http://@@a-/ b|a label of this domain begins or ends with -
 host-domain|http://@@ab--c.example/|a label of this domain has -- in its third and fourth place$wide
 host-domain|http://@@XM--a#|a label of this domain has -- in its third and fourth place$wide
@@ -206,6 +344,8 @@ host-domain|http://@@www.XN--a.example:80/|XN--a is not the Punycode of a valid 
 host-domain|http://@@xn--a.xn--b/|a label that begins with xn-- is not the Punycode of a valid one
 host-domain|http://@@xn--$long/|a label of this domain has more than 63 code points
 host-domain|http://@@$name.$name.$name.$name.a/|this domain has more than 253 code points
+host-domain|http://@@$name.$name.$name.xn--a.${name:0:55}/|xn--a is not the Punycode of a valid label
+host-domain|http://@@$name.$name.$name.${name:0:62}/|this domain has more than 253 code points
 host-domain|http://@@\xc2\xad/|the host that begins here is not a valid domain
 host-domain|file://@@C:/x|a drive letter is written after file:///, and not in place of a host
 host-domain|file://@@c\\0174|a drive letter is written after file:///, and not in place of a host; a drive letter is written with :
@@ -217,6 +357,7 @@ ROWS
 says --wide <<ROWS
 host-domain|http://@@x_y!/|U+0021 EXCLAMATION MARK $domain
 host-domain|http://@@-a..b/|a label of this domain is empty
+host-domain|http://@@$long/|a label of this domain has more than 63 code points
 host-domain|http://@@-a--b.xn--a-/|xn--a- is not the Punycode of a valid label
 ROWS
 says --profile parser <<ROWS
@@ -229,6 +370,7 @@ ROWS
 says <<ROWS
 host-number|http://@@192.168.010.1/|010 is octal to URL parsers: write no 0 before a number
 host-number|http://@@0x7f.1/|0x7f is hex to URL parsers: write a decimal number
+host-number|http://@@0X1F/|0X1F is hex to URL parsers: write a decimal number
 host-number|http://@@192.168.1/|an IPv4 address has four numbers, and this one has 3
 host-number|http://@@1/|an IPv4 address has four numbers, and this one has 1
 host-number|http://@@1.2.3.4.5:80/|an IPv4 address has four numbers, and this one has 5
@@ -243,8 +385,21 @@ host-ipv6|http://@@[::1]x/|nothing but a port can follow the ] of a host
 host-ipv6|http://@@[1::2::3]/|:: is twice in this IPv6 address
 host-ipv6|http://@@[fe80::1%25eth0]/|an IPv6 address in a URL has no zone: leave out the % and what follows it
 host-ipv6|foo://@@[::1%1]:80|an IPv6 address in a URL has no zone: leave out the % and what follows it
-host-ipv6|http://@@[x%1]/|the host that begins here is not an IPv6 address in brackets
-host-ipv6|http://@@[1.2.3.4]/|the host that begins here is not an IPv6 address in brackets
+host-ipv6|http://@@[x%1]/|U+0078 LATIN SMALL LETTER X is not a hex digit of an IPv6 address
+host-ipv6|http://@@[1:2:3]/|an IPv6 address has eight pieces, and this one has 3
+host-ipv6|http://@@[]/|an IPv6 address is missing in these brackets
+host-ipv6|http://@@[1:2:3:4:5:6:7:8:9]/|an IPv6 address has eight pieces, and this one has 9
+host-ipv6|http://@@[1:2:3::12345]/|a piece of this IPv6 address has more than 4 hex digits
+host-ipv6|http://@@[12345::]/|a piece of this IPv6 address has more than 4 hex digits
+host-ipv6|http://@@[1::2:3:4:5:6:7:8:9]/|an IPv6 address with :: has at most seven pieces, and this one has 9
+host-ipv6|http://@@[1:2:3:4:5:6:7:1.2.3.4]/|an IPv6 address has eight pieces, and this one has 9
+host-ipv6|http://@@[::ffff:1.2.3.256]/|this IPv6 address ends in no IPv4 address of four numbers up to 255
+host-ipv6|http://@@[1.2.3.4::]/|this IPv6 address ends in no IPv4 address of four numbers up to 255
+host-ipv6|http://@@[1.2.3.4]/|an IPv4 address is written without brackets
+host-ipv6|http://@@[1:2:3:4:5:6:7:]/|a piece of this IPv6 address is empty
+host-ipv6|http://@@[:1::2]/|a piece of this IPv6 address is empty
+host-ipv6|http://@@[::1:]/|a piece of this IPv6 address is empty
+host-ipv6|foo://@@[h/|] is missing after the [ of this host
 host-missing|http://@@::1/|a host that is an IPv6 address is written in brackets
 host-number|http://@@2001:db8::1/|a host that is an IPv6 address is written in brackets
 port-digit|https://fe80:@@:1?x:80|a host that is an IPv6 address is written in brackets
@@ -267,14 +422,56 @@ first-segment-empty|https://h/@@/a|the path begins with //; write one slash, or 
 first-segment-empty|https://h/@@/a b|the path begins with //; write one slash
 drive-after-host|file://h@@/C:/x|the path after this host begins with a drive letter; --profile parser allows it
 drive-after-host|file://h@@/C:/x^|the path after this host begins with a drive letter
-percent|http://h/@@%4|U+0025 PERCENT SIGN has to be followed by two hex digits
+percent|http://h/@@%4|U+0025 PERCENT SIGN has to be followed by two hex digits; this escape is cut off
 code-point|http://h/@@\xef\xbf\xbf|U+FFFF <noncharacter> $url
+code-point|http://h/@@\xef\xb7\x90|U+FDD0 <noncharacter> $url
+code-point|http://h/@@\xef\xb7\xaf|U+FDEF <noncharacter> $url
+code-point|http://h/@@\xf4\x8f\xbf\xbf|U+10FFFF <noncharacter> $url
 code-point|http://h/@@\xc2\x85|U+0085 $url
 code-point|http://h/@@\x1b[2J|U+001B ESCAPE $url
 ROWS
 says --base mailto:a <<'ROWS'
 opaque-base|b|there is no scheme, the base has an opaque path, and the text isn't # and a fragment
 ROWS
+
+# Each ASCII code point that a port can't have, and that ends none, by its name in the Unicode Character Database.
+python3 - "$room/list" <<'PYTHON'
+import sys
+points = [chr(number) for number in range(128) if chr(number) not in "\n/?#@0123456789"]
+open(sys.argv[1], "wb").write("".join(f"http://h:1{point}/\n" for point in points).encode())
+PYTHON
+"$program" lint --quiet --format json "$room/list" >"$room/out" 2>"$room/err"
+ends_with 1 $? "urlcheck: $room/list isn't text\\n" 'code points of a port'
+python3 - "$room/out" >"$room/wrong" <<'PYTHON' || fail "code points of a port: $(cat "$room/wrong")"
+import json, re, sys, unicodedata
+found = [json.loads(line) for line in open(sys.argv[1], encoding="utf-8")]
+said = [re.match("U[+]([0-9A-F]{4}) (.*) is not allowed in a port(; |$)", one["message"]) for one in found]
+wrong = [one for one, m in zip(found, said) if not (m and unicodedata.lookup(m[2]) == one["text"][10] == chr(int(m[1], 16)))]
+print(len(found), *wrong, sep="\n")
+sys.exit(bool(wrong) or len(found) != 113)
+PYTHON
+
+# What is said of each of several violations: credentials end with their \`@\`, and an address without brackets is one in each.
+printf '%s\n' 'foo://^@^/' 'http://::1/ ' >"$room/each"
+credentials='a URL string has no credentials: no user name, password or @ before its host'
+bare='a host that is an IPv6 address is written in brackets'
+expect 1 "each:1:7: error: $credentials [host-code-point]
+each:1:8: error: $credentials [host-code-point]
+each:1:9: error: U+005E CIRCUMFLEX ACCENT is not allowed in a host [host-code-point]
+each:2:8: error: $bare [host-missing]
+each:2:9: error: $bare [port-digit]
+each:2:12: error: U+0020 SPACE $url [code-point]
+" 'urlcheck: 2 lines, 2 refused\n' lint --all each
+
+# A code point of which nothing is seen before a link, only by its number; a private one is seen.
+for point in 00A0 00AD 1680 180E 2000 200A 200B 200D 202F 205F 2060 206F 3000 FFF9 FFFB E0001 E007F; do
+    python3 -c 'import sys; open(sys.argv[2], "wb").write((chr(int(sys.argv[1], 16)) + "https://a/\n").encode())' "$point" "$room/each"
+    expect 1 "each:1:1: error: U+$point is before the scheme; leave it out [no-scheme]\n" 'urlcheck: 1 line, 1 refused\n' lint each
+done
+for point in 1681 200E0 2070 FDF0 FFFC E0080; do
+    python3 -c 'import sys; open(sys.argv[2], "wb").write((chr(int(sys.argv[1], 16)) + "https://a/\n").encode())' "$point" "$room/each"
+    expect 1 'each:1:1: error: there is no scheme and no base [no-scheme]\n' 'urlcheck: 1 line, 1 refused\n' lint each
+done
 
 # Offered: what says the same in another writing, where nothing shows that something else was meant.
 offers True <<'ROWS'
@@ -291,7 +488,12 @@ https://1.2.3.4/a b
 https://h:80/a|b
 mailto:a@h?subject=a b
  mailto:a@h
+https://x.org/100%sure
+https://h/5%sale
+https://h/?titles=NASA|ESA|JAXA
+https://h/@user.name/a b
 javascript:f({a})
+javascript:f($('a') )
 data:text/html,<p>x</p>
 https://h/a<b>c
 foo:a b
@@ -300,8 +502,12 @@ http://http:80/a b
 file:///http://x y
 https://h/.//a b
 ab:\x
+x:y z
+foo:///C|/x
+magnet:?xt=urn:btih:ab&dn=a b
 ROWS
-# Not offered: templates, paths of Windows, two schemes, a link after a space, addresses that aren't in the text, paths by rules of a scheme.
+# Not offered: templates, paths of Windows, two schemes, a link after a space, addresses that aren't in the text, paths by rules of a
+# scheme, topics of magnet links, paths kept by a segment `.`, drive letters, hosts in place of a scheme, misspelled schemes.
 offers False <<'ROWS'
 https://h/{id}
 https://h/%(id)s
@@ -323,10 +529,41 @@ http://0x7f.1/a b
 mailto:<a@h>
 mailto:a b@h
 tel:+1 555
+sms:1 2
+sip:a b
+sips:a b@h
+xmpp:a b@h
+geo:1, 2
 about: blank
 view-source:https://a b/
 https://h/%u00e9
+https://h/Caf%C3%A
+https://h/%D0%9F%D0%B
+urn:isbn: 0451450523
+magnet:?xt=urn:btih:a b
 https://h//a
+file://h/C:/x
+file:///C|/x
+localhost:8080/a b
+htp://example.com/a b
+https://YOUR_DOMAIN/a b
+URL: https://e.com/
+ROWS
+# Against a base a line of HTML is read as a path; what begins with `<` alone isn't one.
+offers False --base http://h/ <<'ROWS'
+<p>text</p>
+<a href="b">
+ROWS
+offers True --base http://h/ <<'ROWS'
+<p
 ROWS
 
-all_cases 239
+# Credentials before a port; an `@` after the authority's end isn't one.
+says <<ROWS
+port-digit|http://user:@@pw\x40h/|$credentials; leave them out
+host-domain|http://@@x_y/\x40|U+005F LOW LINE $domain$wide
+host-code-point|foo://a@@^b?\x40|U+005E CIRCUMFLEX ACCENT is not allowed in a host
+port-digit|http://h:8@@x#\x40|U+0078 LATIN SMALL LETTER X is not allowed in a port
+ROWS
+
+all_cases 397

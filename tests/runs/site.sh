@@ -15,10 +15,10 @@ if command -v chromedriver >/dev/null && /usr/bin/python3 -c 'import selenium' 2
     browser=1
     /usr/bin/python3 "$top/tests/runs/site/site.py" browser "$room/site" ${PICTURES:+"$PICTURES"} || failed=1
 else
-    echo "site: the browser is left out, since chromium-driver or python3-selenium isn't installed"
+    left_out site 'the browser' "chromium-driver or python3-selenium isn't installed"
 fi
 
-# spoiled WHAT SAID FILE SED [NAME] : in a copy where this edit changed a page the check says so, that of the looks of the
+# spoiled WHAT SAID FILE SED [NAME] : in a copy where this edit changed a page the check says so, the check of the looks of the
 # page NAME if it is given
 count=0
 spoiled() {

@@ -8,10 +8,10 @@ for words in 'check urn:a' 'check x' 'links'; do
         "$program" $words <"$room/list" >&- 2>"$room/err"
         ends_with 3 $? "${no_output}write\\n" "$words with standard output closed"
     fi
-    # A pipe without a reader, of which nothing is said, with the signal SIGPIPE at its default, and ignored.
-    (sleep 0.2; "$program" $words <"$room/list" 2>"$room/err"; echo $? >"$room/status") | true
+    # A pipe without a reader, about which there is no message, with the signal SIGPIPE at its default, and ignored.
+    to_nobody "$program" $words <"$room/list"
     ends_with 3 "$(cat "$room/status")" '' "$words to a closed pipe"
-    (trap '' PIPE; sleep 0.2; "$program" $words <"$room/list" 2>"$room/err"; echo $? >"$room/status") | true
+    (trap '' PIPE; to_nobody "$program" $words <"$room/list")
     ends_with 3 "$(cat "$room/status")" '' "$words to a closed pipe, SIGPIPE ignored"
 done
 
@@ -25,7 +25,7 @@ fi
 for words in '--help' 'help' 'check --help' 'help lint' '--version'; do
     "$program" $words >/dev/full 2>"$room/err"
     ends_with 3 $? "${no_space}write\\n" "$words to a full device"
-    (sleep 0.2; "$program" $words 2>"$room/err"; echo $? >"$room/status") | true
+    to_nobody "$program" $words
     ends_with 3 "$(cat "$room/status")" '' "$words to a closed pipe"
 done
 
@@ -36,7 +36,7 @@ awk 'BEGIN { for (n = 1; n <= 100000; n++) print "urn:isbn:" n }' >"$room/long"
 ends_with 3 "$(cat "$room/status")" '' 'links to a pipe closed after one line'
 [ "$(cat "$room/out")" = '1 ok urn:isbn:1' ] || fail "a pipe closed after one line: it wrote $(cat "$room/out")"
 
-# Inputs: closed, open for writing alone, a folder; and a list that ends within a line, a code point and a scheme.
+# Inputs: closed, open only for writing, a folder; and a list that ends within a line, a code point and a scheme.
 if has closed_streams 1; then
     "$program" links <&- >"$room/out" 2>"$room/err"
     ends_with 3 $? "${no_input}read\\n" 'links with standard input closed'

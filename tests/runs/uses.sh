@@ -2,7 +2,7 @@
 # Runs the recipes of docs/guides, as a reader would copy them, over the program given as the first argument: on links that are
 # right, on wrong ones, and on what once made a recipe end well though nothing was checked. A recipe whose tool isn't
 # installed is left out, and a line says so. Those for documents are run where PACKAGE names the folder of the Python package,
-# and with the word `documents` these alone, as tests/runs/library.sh does.
+# and with the word `documents` only these, as tests/runs/library.sh does.
 set -uo pipefail
 [ $# -ge 1 ] && [ -x "$1" ] && [[ ${*:2} =~ ^(documents)?$ ]] ||
     { echo 'usage: tests/runs/uses.sh PROGRAM [documents]'; exit 2; }
@@ -53,7 +53,7 @@ has() {
     command -v "$1" >/dev/null || { echo "uses: the recipe for $1 is left out, since it isn't installed"; return 1; }
 }
 
-# in_folder NAME : an empty folder of this name, which is gone to
+# in_folder NAME : makes an empty folder of this name, and goes there
 in_folder() {
     mkdir -p "$room/$1" && cd "$room/$1" || exit 1
 }
@@ -69,16 +69,14 @@ site shell-session tests/runs/authors/pages.py
 editor lua tests/runs/authors/recipes.py
 editor elisp tests/runs/authors/recipes.py
 editor vim tests/runs/authors/recipes.py
-editor toml tests/runs/authors/recipes.py
-editor json tests/runs/authors/recipes.py
 database sql tests/runs/registers/page.py
 database bash tests/runs/registers/duckdb.sh
 python python tests/runs/library/programs.py
 c c tests/runs/library/programs.py
-c cpp tests/runs/library/programs.py
+cpp cpp tests/runs/languages.sh
+cpp sh tests/runs/languages.sh
 c sh tests/runs/library.sh
 c cmake tests/runs/packages.sh
-rattle rust tests/runs/library/programs.py
 forms python tests/runs/library/forms.py
 rust toml tests/runs/languages.sh
 rust rust tests/runs/languages.sh
@@ -97,10 +95,9 @@ javascript js tests/runs/browser.sh
 sphinx python -
 mkdocs yaml -
 database sh -
-cluster sh -
 javascript sh -'
 # (the lines for conf.py and mkdocs.yml are those that the commands of their guides write; the extension for DuckDB is built by its run;
-# the others need a cluster and npm)
+# the other needs npm)
 
 # Each block of the guides is taken, by a line of this file or by another run; a run that is named names the guides.
 while IFS=$'\t' read -r guide language number; do
@@ -208,7 +205,7 @@ if [ -n "${PACKAGE:-}" ]; then
     done
     cd "$room" || exit 1
 else
-    echo 'uses: the recipes for documents are left out, since PACKAGE names no Python package'
+    echo 'uses: PACKAGE names no Python package; tests/runs/library.sh runs the recipes for documents'
 fi
 if [ $# = 2 ]; then
     [ $failed = 0 ] && echo "uses: $count runs of recipes for documents"
@@ -234,7 +231,7 @@ hard_names() {
     ends 0 "$what of right lists" "$@"
 }
 
-# What is new beside the known faults: none known yet, all known, one moved, one more, the same once more, no list.
+# What is new besides the known faults: none known yet, all known, one moved, one more, the same once more, no list.
 in_folder known
 recipe list sh 2 >../new-faults.sh
 printf 'http://h/a b\n%s\n' $right >a.links
@@ -300,7 +297,7 @@ if has git && has pre-commit; then
     git init -q . && cp "$top/.pre-commit-hooks.yaml" . && git add . && git commit -q -m hooks && git tag "v$(cat "$top/VERSION")"
     in_folder framework
     git init -q .
-    recipe hook yaml | sed "s|https://example.com/urlcheck.git.*|$room/source|" >.pre-commit-config.yaml
+    recipe hook yaml 2 | sed "s|https://example.com/urlcheck.git.*|$room/source|" >.pre-commit-config.yaml
     echo $right >-x.links
     git add .
     ends 0 'pre-commit of a right list' pre-commit run --all-files
@@ -310,7 +307,7 @@ if has git && has pre-commit; then
 fi
 
 # The hooks for documents that the guide names are there.
-recipe hook yaml 2 >"$room/hooks.yaml"
+recipe hook yaml >"$room/hooks.yaml"
 while IFS= read -r id; do
     grep -qx -- "- id: $id" "$top/.pre-commit-hooks.yaml" || { echo "FAILED: no hook $id"; failed=1; }
     count=$((count + 1))
@@ -436,7 +433,7 @@ LISP
 fi
 
 # The task of an editor that runs a command and matches each line it writes.
-recipe editor json 3 >tasks.json
+recipe editor json >tasks.json
 cat >task.py <<'PYTHON'
 import json, re, subprocess, sys
 task, = json.load(open("tasks.json"))["tasks"]
@@ -453,45 +450,19 @@ printf 'http://h/\nhttp://h/\360\237\230\200 x\n' >'two words.links'
 ends 1 'the task of Visual Studio Code' python3 task.py 'two words.links'
 says 'the task of Visual Studio Code' 'two words.links|2|12|U+0020 SPACE is not allowed in a URL|code-point'
 
-# Documents: each kind, a wrong link in each, a document that is cut, one without links, a link over two lines.
-in_folder documents
-recipe site bash 2 >recipe.sh
-# feed STATUS TEXT [LINE..] : the recipe over a document of this text ends so, and says this
-feed() {
-    local wanted=$1
-    printf '%b' "$2" >feed.xml
-    ends "$wanted" "the document $2" bash recipe.sh
-    [ $# = 2 ] || says "the document $2" "${@:3}"
-}
-rss='<rss version="2.0"><channel><link>https://a.example/</link><item><link>'
-atom='<feed xmlns="http://www.w3.org/2005/Atom"><link rel="self" href="/feed.xml"/><entry><link href="'
-map='<urlset xmlns="http://www.sitemaps.org/schemas/sitemap/0.9"><url><loc>\n  '
-feed 0 "$rss/b</link></item></channel></rss>" '1 ok https://a.example/' '2 ok https://example.com/b' \
-    'links 2 ok 2 bad 0 differs 0'
-feed 1 "$rss/b c</link></item></channel></rss>" '1 ok https://a.example/' '2 bad 2 code-point' \
-    'links 2 ok 1 bad 1 differs 0'
-feed 1 "$rss/b\\nhttp://c/</link></item></channel></rss>"
-feed 0 "$rss\\u00a0/b</link></item></channel></rss>" '1 ok https://a.example/' '2 ok https://example.com/%C2%A0/b' \
-    'links 2 ok 2 bad 0 differs 0'
-feed 0 "$atom./b\"/></entry></feed>" '1 ok https://example.com/feed.xml' '2 ok https://example.com/b' \
-    'links 2 ok 2 bad 0 differs 0'
-feed 1 "$atom./b|\"/></entry></feed>"
-feed 0 "${map}https://example.com/a\\n</loc></url></urlset>" '1 ok https://example.com/a' 'links 1 ok 1 bad 0 differs 0'
-feed 1 "${map}https://example.com/[]\\n</loc></url></urlset>"
-feed any "${map}https://example.com/a</loc></url>"
-feed any 'no document'
-feed any '<rss version="2.0"><channel><title>none</title></channel></rss>'
+# A list with a byte order mark.
+in_folder marked
 sed_line=$(tr '\n' ' ' <"$guides/list.md" | sed -n "s/.*GNU \`\(sed [^\`]*\)\`.*/\1/p")
 [ -n "$sed_line" ] || { echo 'FAILED: docs/guides/list.md has no line for the byte order mark'; failed=1; }
-printf '\357\273\277https://example.com/\n' >marked
-ends any 'a list with a byte order mark' sh -c 'urlcheck links <marked'
-ends 0 'a byte order mark that is taken off' sh -c "$sed_line <marked | urlcheck links"
+printf '\357\273\277https://example.com/\n' >list
+ends any 'a list with a byte order mark' sh -c 'urlcheck links <list'
+ends 0 'a byte order mark that is taken off' sh -c "$sed_line <list | urlcheck links"
 
 # Pieces: their sums are the list's, a piece that fails fails the whole, and so does a wrong line.
 in_folder pieces
 awk 'BEGIN { for (n = 1; n <= 40000; n++)
     print (n % 5 == 1 ? "http://h/a b" : n % 5 == 3 ? "x" : "http://h/" n) }' >all.links
-sums='links 40000 ok 24000 bad 16000 differs 0'
+sums='40000 lines, 16000 refused'
 awk 'BEGIN { for (n = 1; n <= 40000; n++) print "http://h/" n }' >right.links
 # failing TIMES : a program that fails with 3 on a piece that has the line http://h/20000, and otherwise is urlcheck
 mkdir failing
@@ -504,21 +475,25 @@ in_pieces() {
     shift
     cp all.links wrong.links
     ends 1 "$what of a list" "$@"
-    grep -qxF "$sums" "$room/out" || { echo "FAILED: $what: it wrote: $(cat "$room/out")"; failed=1; }
+    says "$what of a list" "$sums"
+    cat refused.* | sed 's/^-:[0-9]*/-/' | sort >refused
+    { urlcheck lint --quiet all.links || true; } | sed 's/^all.links:[0-9]*/-/' | sort | cmp - refused ||
+        { echo "FAILED: $what: other lines"; failed=1; }
     cp right.links all.links
     ends 0 "$what of a right list" "$@"
-    says "$what of a right list" 'links 40000 ok 40000 bad 0 differs 0'
+    says "$what of a right list" '40000 lines, 0 refused'
     PATH=$PWD/failing:$PATH ends any "$what with a piece that fails" "$@"
-    ! grep -q '^links 40000' "$room/out" || { echo "FAILED: $what: a piece that failed was counted"; failed=1; }
+    ! grep -q 'lines, ' "$room/out" || { echo "FAILED: $what: a piece that failed was counted"; failed=1; }
     : >all.links
     ends 0 "$what of an empty list" "$@"
-    says "$what of an empty list" 'links 0 ok 0 bad 0 differs 0'
+    says "$what of an empty list" '0 lines, 0 refused'
+    rm all.links
+    ends any "$what of no list" "$@"
+    ! grep -q 'lines, ' "$room/out" || { echo "FAILED: $what: a list that isn't there was counted"; failed=1; }
     mv wrong.links all.links
 }
-if has parallel; then
-    recipe cluster bash | sed 's/--block 10M/--block 100K/' >parallel.sh
-    in_pieces 'parallel' bash parallel.sh
-fi
+recipe list bash >pieces.sh
+in_pieces 'xargs and split' bash pieces.sh
 
 [ $failed = 0 ] && echo "uses: $count runs of recipes"
 exit $failed

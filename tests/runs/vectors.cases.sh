@@ -23,7 +23,7 @@ cmp -s "$room/out" "$vectors/root_dot.tsv" || fail 'root_dot.tsv: other cases ha
 # vector_file TEXT : a file in the room that has this text, read with escapes
 vector_file() { printf '%b' "$1" >"$room/vectors.json"; }
 
-# no_case NUMBER REASON : what is said on standard error of a value that isn't a case
+# no_case NUMBER REASON : the line on standard error about a value that isn't a case
 no_case() { printf '%s' "urlcheck: vector $1: $2\\nvector $1 malformed\\n"; }
 either='it has to have either "text" or both "place" and "rule"'
 digits='"place" has to be a number in digits alone, below 2^64'
@@ -93,7 +93,7 @@ malformed 1 "$either" '[{"input":"a"}]'
 malformed 2 "$digits" '[{"input":"urn:a","text":"urn:a"},{"input":"x","place":-1,"rule":"no-scheme"}]'
 malformed 2 "$either" '[{"input":"urn:a","text":"x"},{"input":"x"},{"input":"y"}]'
 
-# What a case may not be: with other keys, values of another kind, a place that isn't in digits alone, or the name of no
+# What a case may not be: with other keys, values of another kind, a place that isn't only digits, or the name of no
 # rule or profile.
 malformed 1 '"rule" has to be the name of a rule' '[{"input":"x","place":0,"rule":"none"}]' \
     '[{"input":"x","place":0,"rule":1}]' \

@@ -23,7 +23,7 @@ refused() {
     fi
 }
 
-# shows LINE WORD.. : these words are answered on standard output alone, with this line among others
+# shows LINE WORD.. : these words are answered only on standard output, with this line among others
 shows() {
     local line=$1
     shift
@@ -52,7 +52,7 @@ expect 2 '' "urlcheck: a value is required for '--profile <PROFILE>' but none wa
 refused "'b'" check -- --base b t
 refused "'chek'" chek urn:a
 no_file='urlcheck: links reads standard input, not a file: urlcheck links <FILE'
-# usage_of WORDS : what is said of how a command is used: an option is one of those that may be left out, even if it is given
+# usage_of WORDS : the usage of a command: an option is one of those that may be left out, even if it is given
 usage_of() { printf '%s' "urlcheck: Usage: $1\nurlcheck: For more information, try '--help'.\n"; }
 usage=$(usage_of 'urlcheck links [OPTIONS]')
 of_one=$(usage_of 'urlcheck check [OPTIONS] <TEXT>')
@@ -159,11 +159,26 @@ expect 2 '' "$both" check --wide --profile wide urn:a
 expect 2 '' "$both" links --profile standard --wide
 expect 2 '' "$both" check --wide --profile parser urn:a
 
-# A text that is `-` alone isn't a standard input: where it is refused, a hint says so.
+# hints STDOUT STDERR WORD.. : a check of a text that it refuses writes nothing on standard error unless that is a terminal.
+# At a terminal it says a sentence for each place that it prints, in their order, perhaps what to write, and then STDERR.
+hints() {
+    local stdout=$1 stderr=$2 ended
+    shift 2
+    expect 1 "$stdout" '' "$@"
+    has terminals 1 || return 0
+    at_terminal /dev/null "$@"
+    ended=$?
+    sed -n 's/^urlcheck: at place \([0-9]*\): ..*/refused \1/p' "$room/err" | cmp -s - <(sed 's/ [a-z0-9-]*$//' "$room/out") ||
+        fail "$*: at a terminal it wrote $(cat "$room/out") and said $(cat "$room/err")"
+    sed -i -e '/^urlcheck: at place [0-9]*: /d' -e '/^urlcheck: write /d' "$room/err"
+    ends_with 1 $ended "$stderr" "$*, at a terminal"
+}
+
+# A text that is only `-` isn't a standard input: if it is refused, a hint at a terminal says so.
 of_check='urlcheck: - is the text here; lint - and links read standard input\n'
 of_mend='urlcheck: - is the text here; mend without a TEXT reads standard input\n'
-expect 1 'refused 0 no-scheme\n' "$of_check" check -
-expect 1 'refused 0 no-scheme\n' "$of_check" check --all --wide -- -
+hints 'refused 0 no-scheme\n' "$of_check" check -
+hints 'refused 0 no-scheme\n' "$of_check" check --all --wide -- -
 expect 1 'none\nrefused 0 no-scheme\n' "$of_mend" mend -
 expect 0 'valid\nscheme http\nhost domain h\nsegment -\n' '' check --base http://h/ -
 expect 0 'valid\n' '' mend --base http://h/ -
@@ -177,15 +192,15 @@ list_of_check='is the text here; lint FILE checks the lines of a file\n'
 list_of_mend='is the text here; mend <FILE mends the lines of a file\n'
 document='is the text here; urlcheck-documents FILE checks the links of a document\n'
 for end in txt csv tsv json links; do
-    expect 1 'refused 0 no-scheme\n' "urlcheck: links.$end $list_of_check" check links.$end
+    hints 'refused 0 no-scheme\n' "urlcheck: links.$end $list_of_check" check links.$end
     expect 1 'none\nrefused 0 no-scheme\n' "urlcheck: .${end^^} $list_of_mend" mend .${end^^}
 done
 for end in html htm xhtml xht xml rss atom rdf svg md markdown; do
-    expect 1 'refused 0 no-scheme\n' "urlcheck: page.$end $document" check page.$end
+    hints 'refused 0 no-scheme\n' "urlcheck: page.$end $document" check page.$end
     expect 1 'none\nrefused 0 no-scheme\n' "urlcheck: .${end^^} $document" mend .${end^^}
 done
-expect 1 'refused 0 no-scheme\n' "urlcheck: ../a/x.y.Html $document" check --all --wide -- ../a/x.y.Html
-expect 1 'refused 0 no-scheme\nrefused 1 code-point\n' "urlcheck: a\0357\0277\0275.md $document" check --all $'a\e.md'
+hints 'refused 0 no-scheme\n' "urlcheck: ../a/x.y.Html $document" check --all --wide -- ../a/x.y.Html
+hints 'refused 0 no-scheme\nrefused 1 code-point\n' "urlcheck: a\0357\0277\0275.md $document" check --all $'a\e.md'
 for text in html x.opml x.htmlx x.html/ x.ht .h xhtml links.txt~ 'a b.html' a?b.html a#b.html .json.gz; do
     expect 1 'refused 0 no-scheme\n' '' check "$text"
 done
@@ -207,7 +222,7 @@ done
 
 # One that is near to a command, or abbreviates just one by its first letter and further ones in their order: that one, in place
 # of clap's tips. For `version` it is said which words show that.
-# no_command HINT WORD.. : these words are refused for the first of them, with this hint alone
+# no_command HINT WORD.. : these words are refused for the first of them, with only this hint
 no_command() {
     local hint=$1
     shift
@@ -218,6 +233,12 @@ for words in 'chk check' 'chek check' 'LINT lint' 'lnit lint' 'mnd mend' 'vec ve
     no_command "no command is named '$word'; the nearest is $near" $word urn:a
 done
 no_command 'urlcheck --version shows the version' version
+for word in page.html docs/README.md; do
+    no_command 'urlcheck-documents FILE checks the links of a document' $word
+done
+for word in . docs/; do
+    no_command 'lint reads files, not folders; urlcheck-documents FOLDER checks the documents in it' $word
+done
 # (so is the word after help)
 expect 2 '' "urlcheck: unrecognized subcommand 'lnt'\n$(usage_of "$(basename "$program") <COMMAND>")\
 urlcheck: no command is named 'lnt'; the nearest is lint\nwords\n" help lnt
@@ -364,7 +385,7 @@ for word in --fto --mat= --t; do
         fail "lint $word: on standard error: $(cat "$room/err")"
     fi
 done
-# (of one that isn't near nothing is said, nor that links takes no file; after -- none is an option)
+# (there is no hint on one that isn't near, nor that links takes no file; after -- none is an option)
 for words in '--bogus http://h/' '-x links.txt' '--only= same'; do
     ran 2 links $words
     if grep -q -e 'has no option' -e 'takes no file' "$room/err" || [ "$(tail -n 1 "$room/err")" != words ]; then
@@ -375,7 +396,7 @@ expect 2 '' "urlcheck: unexpected argument '--bse' found\n$usage$no_file\nwords\
 expect 2 '' "urlcheck: unexpected argument '-' found\n$usage$no_file\nwords\n" links -
 
 # One hyphen in place of two is told too, where further letters are after it.
-# misspelt SHOWN USAGE HINT WORD.. : these words are refused for an option that clap calls so, with this hint alone
+# misspelt SHOWN USAGE HINT WORD.. : these words are refused for an option that clap calls so, with only this hint
 misspelt() {
     local shown=$1 of=$2 hint=$3
     shift 3
@@ -386,13 +407,13 @@ misspelt -w 'urlcheck check [OPTIONS] <TEXT>' 'check has no option -wide; the ne
 misspelt -f "$of_files" 'lint has no option -format; the nearest is --format' lint -format=json links.txt
 misspelt -o "$of_mend" 'mend has no option -only; the nearest is --only' mend -only same
 
-# The letters count alone by which a name is near, not the hyphens.
+# Only letters decide which name is near, not hyphens.
 for words in 'lint --file' 'check --line' 'mend --mode' 'explain --rule=x'; do
     ran 2 $words x
     ! grep -q 'the nearest is' "$room/err" || fail "$words: on standard error: $(cat "$room/err")"
 done
 
-# Where nothing is known of an option, it is said that it isn't one, and how the command is used, without clap's tips: neither
+# If nothing is known about an option, the message says that it isn't one, and how the command is used, without clap's tips: neither
 # to hand it over as a text, nor one at an option by letters of its name.
 # unknown USAGE SHOWN WORD.. : these words are refused for an option that clap calls so, and nothing more is said
 unknown() {
@@ -597,31 +618,43 @@ expect 0 'valid\nscheme file\nhost domain h\nsegment C:\nsegment x\n' '' check -
 expect 0 'valid\nscheme urn\nopaque a b\nfragment f\n' '' check --profile parser --base 'urn:a b' '#f'
 expect 2 '' "$(no_base 5 code-point 'U+0020 SPACE is not allowed in a URL')" check --wide --base 'urn:a b' '#f'
 expect 2 '' "$(no_base 7 host-number '256 is above 255, the largest number of an IPv4 address')" check --profile parser --base http://256/ x
-# Of a text that is refused, standard error says what is wrong, as lint says it, and what to write, where lint offers that.
+# If a text is refused and standard error is a terminal, it shows what is wrong, as lint says it, and what to write,
+# where lint offers that.
 # tells STDERR WORD.. : a check of these words says this of a text that it refuses
 tells() {
     local said=$1
     shift
-    ran 1 check "$@"
-    printf '%b' "$said" | cmp -s - "$room/err" || fail "check $*: on standard error: $(cat "$room/err")"
+    has terminals 1 || return 0
+    at_terminal /dev/null check "$@"
+    ends_with 1 $? "$said" "check $*, at a terminal"
 }
 tells 'urlcheck: at place 10: U+0020 SPACE is not allowed in a URL\nurlcheck: write http://h/a%20b\n' 'http://h/a b'
-tells 'urlcheck: at place 1: U+0020 SPACE is not allowed in a URL\nurlcheck: write a%20b%254\n' --base http://h/ 'a b%4'
+tells 'urlcheck: at place 1: U+0020 SPACE is not allowed in a URL\nurlcheck: write a%20b%25g4\n' --base http://h/ 'a b%g4'
 # (a wider profile is named where it accepts the whole text)
-tells 'urlcheck: at place 7: U+005F LOW LINE is not allowed in a domain; --profile wide allows it\n' http://a_b/
-tells 'urlcheck: at place 7: U+005F LOW LINE is not allowed in a domain\n'\
+tells 'urlcheck: in the host at place 7: U+005F LOW LINE is not allowed in a domain; --profile wide allows it\n' http://a_b/
+tells 'urlcheck: in the host at place 7: U+005F LOW LINE is not allowed in a domain\n'\
 'urlcheck: at place 11: U+0020 SPACE is not allowed in a URL\n' --all 'http://a_b/ '
 tells 'urlcheck: at place 9: U+007B LEFT CURLY BRACKET is not allowed in a URL; this looks like a template: check what it makes\n' \
     'http://h/{{ id }}'
+# (a variable of the shell that isn't set gives such a text)
+tells 'urlcheck: at place 0: the text is empty\n' ''
+# (a host is refused where it begins, wherever in it the code point is)
+tells 'urlcheck: in the host at place 7: U+0020 SPACE is not allowed in a domain\n' 'http://exa mple.com/'
+tells 'urlcheck: in the host at place 7: 256 is above 255, the largest number of an IPv4 address\n' http://1.2.3.256/
+tells 'urlcheck: in the host at place 7: an IPv6 address has eight pieces, and this one has 2\n' 'http://[1:2]/'
 tells 'urlcheck: at place 0: there is no scheme and no base\nurlcheck: - is the text here; lint - and links read standard input\n' -
 while IFS=$'\037' read -r base text; do
     against=()
     [ -z "$base" ] || against=(--base "$base")
-    ran 1 check "${against[@]}" -- "$text"
+    has terminals 1 || continue
+    at_terminal /dev/null check "${against[@]}" -- "$text"
+    count=$((count + 1))
     printf '%s\n' "$text" | "$program" lint -q --format json "${against[@]}" - >"$room/json"
-    python3 -c 'import json, sys; it = json.load(open(sys.argv[1])); print("urlcheck: at place %d: %s" % (it["column"] - 1, it["message"]));
+    python3 -c 'import json, sys; it = json.load(open(sys.argv[1]))
+region = "in the host " if it["rule"] in ("host-domain", "host-number", "host-ipv6") else ""
+print("urlcheck: %sat place %d: %s" % (region, it["column"] - 1, it["message"]))
 if it.get("offered"): print("urlcheck: write " + it["mended"])' "$room/json" | cmp -s - "$room/err" ||
         fail "check $text: on standard error: $(cat "$room/err")"
 done < <("$program" explain |
     awk '/^rule / { base = "" } /^base / { base = substr($0, 6) } /^text / { print base "\037" substr($0, 6) }')
-all_cases 500
+all_cases 528

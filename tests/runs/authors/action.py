@@ -28,7 +28,19 @@ def released(package: str, folder: str) -> str:
     return "file://" + folder
 
 
-def ran(step: Dict[str, Any], inputs: Dict[str, str], folder: str, room: str) -> "subprocess.CompletedProcess[str]":
+def elsewhere(room: str) -> str:
+    """A folder with a command `uname` of a Mac."""
+    folder = os.path.join(room, "mac")
+    os.mkdir(folder)
+    with open(os.path.join(folder, "uname"), "w", encoding="utf-8") as file:
+        file.write('#!/bin/sh\ncase $1 in -s) echo Darwin ;; *) echo x86_64 ;; esac\n')
+    os.chmod(file.name, 0o755)
+    return folder
+
+
+def ran(
+    step: Dict[str, Any], inputs: Dict[str, str], folder: str, room: str, first_on_path: str = ""
+) -> "subprocess.CompletedProcess[str]":
     """A step of the action, by the shell of a runner in a folder."""
     assert step["shell"] == "bash" and "${{" not in step["run"], step
     given = {name: _INPUT.sub(lambda it: inputs[it[1]], value) for name, value in step["env"].items()}
@@ -38,11 +50,12 @@ def ran(step: Dict[str, Any], inputs: Dict[str, str], folder: str, room: str) ->
     words = ["bash", "--noprofile", "--norc", "-eo", "pipefail", script]
     environment = {**os.environ, **given, "RUNNER_TEMP": room}
     environment.pop("PYTHONPATH", None)
+    environment["PATH"] = first_on_path + os.pathsep * bool(first_on_path) + environment["PATH"]
     return subprocess.run(words, cwd=folder, env=environment, capture_output=True, text=True, check=False)
 
 
 def main() -> None:
-    """Runs the action on a page that is right, on one that isn't, and with a wheel that isn't the one of the release."""
+    """Runs the action on a page that is right, on one that isn't, and with a wheel that isn't the release's."""
     with open(os.path.join(TOP, "action.yml"), encoding="utf-8") as file:
         text = file.read()
     action = yaml.safe_load(text)
@@ -70,6 +83,9 @@ def main() -> None:
             checked = ran(check, {**inputs, "files": files, "options": options}, os.path.join(room, "my"), room)
             if checked.returncode != wanted or error in checked.stdout and not said or said not in checked.stdout:
                 sys.exit("FAILED: action.yml on {} with {}: {}".format(files.split(), options.split(), checked))
+        got = ran(get, inputs, room, room, elsewhere(room))
+        if got.returncode != 2 or "has no wheel for Darwin-x86_64;" not in got.stdout:
+            sys.exit("FAILED: action.yml says nothing of a machine without a wheel: {}".format(got))
         with open(os.path.join(room, "release", "SHA256SUMS"), "r+", encoding="utf-8") as file:
             sums = file.read()
             file.seek(0)
@@ -77,7 +93,7 @@ def main() -> None:
         got = ran(get, inputs, room, room)
         if got.returncode != 1 or "FAILED" not in got.stdout:
             sys.exit("FAILED: action.yml takes a wheel that isn't that of the release: {}".format(got))
-    print("authors: the steps of action.yml, on 4 folders and with a wheel of another release")
+    print("authors: the steps of action.yml, on 4 folders, with a wheel of another release and with none")
 
 
 if __name__ == "__main__":

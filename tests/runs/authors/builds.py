@@ -7,9 +7,13 @@ import re
 import subprocess
 import sys
 import tempfile
+import threading
 import unittest
 
 HAS_MYST = importlib.util.find_spec("myst_parser") is not None
+HAS_TOML = any(map(importlib.util.find_spec, ("tomllib", "tomli")))
+PICTURE = "data:image/png;base64," + 2000 * "iVBORw0K" + "^"
+"""A picture in a URL, of some thousand characters, whose last one is wrong."""
 
 INDEX = """Title
 =====
@@ -183,7 +187,7 @@ TWICE = {"20": 2}
 
 
 def places_of(files):
-    """Where each mark is in the sources that are to be told: file, line, column."""
+    """Returns the file, line and column of each mark in the sources."""
     places = {}
     for name, text in files.items():
         for found in re.finditer(r"\^(\d+)", text):
@@ -319,10 +323,48 @@ class Sphinx(Built):
             self.assertEqual(re.findall(r"\[([a-z-]+)\]$", self.build("-E")[1], re.M), rules)
         for given, wanted in (("urlcheck_profile = 'x'", "urlcheck_profile is one of standard, wide, parser"),
                               ("urlcheck_base = 'x'", "urlcheck_base: the base is refused at place 0"),
-                              ("urlcheck_ignore = ['(']", "urlcheck_ignore: no regular expression")):
+                              ("urlcheck_ignore = ['(']", "urlcheck_ignore: not a regular expression")):
             self.write({"conf.py": "extensions = ['urlcheck.sphinx']\n" + given})
             status, said = self.build("-E")
             self.assertEqual((status, wanted in said), (2, True), said)
+
+
+    @unittest.skipUnless(HAS_TOML, "nothing reads TOML")
+    def test_a_project(self):
+        """A build after another one heeds what a project's file says now, even if that is new or gone."""
+        self.write({"conf.py": "extensions = ['urlcheck.sphinx']\nexclude_patterns = ['mst.md', 'out']\n"})
+        self.write({"index.rst": "T\n=\n\n`a <http://a_b/>`_\n\n.. raw:: html\n\n   <img src=''>\n"})
+        rules = lambda: re.findall(r"\[([a-z-]+)\]$", self.build()[1], re.M)
+        self.assertEqual(rules(), ["host-domain", "empty"])
+        self.assertEqual(rules(), [])
+        for text, wanted in (("profile = 'wide'", ["empty"]), ("ignore = ['a_b']", ["empty"]), ("no-empty = true", ["host-domain"])):
+            self.write({".urlcheck.toml": text})
+            self.assertEqual((rules(), rules()), (wanted, []), text)
+        os.remove(os.path.join(self.room, ".urlcheck.toml"))
+        self.assertEqual((rules(), rules()), (["host-domain", "empty"], []))
+        # (what conf.py says goes before it, even if it is the default)
+        self.write({".urlcheck.toml": "profile = 'wide'\nno-empty = true"})
+        self.assertEqual(rules(), [])
+        for words, wanted in ((["urlcheck_no_empty=0"], ["empty"]), (["urlcheck_profile=standard"], ["host-domain"])):
+            self.assertEqual(re.findall(r"\[([a-z-]+)\]$", self.build("-E", "-D", *words)[1], re.M), wanted)
+
+    @unittest.skipUnless(HAS_MYST, "MyST isn't installed")
+    def test_markdown_by_another_name(self):
+        """What is Markdown is said by the parser, and not by the end of a name."""
+        conf = "extensions = ['urlcheck.sphinx', 'myst_parser']\nexclude_patterns = ['out', 'part.txt', 'mst.md']\nurlcheck_columns = True\n"
+        self.write({"conf.py": conf + "source_suffix = {'.rst': 'restructuredtext', '.text': 'markdown', '.md': 'restructuredtext'}\n"})
+        self.write({"index.rst": "T\n=\n\n.. toctree::\n\n   a\n   b\n", "a.text": "# A\n\n[b](<http://h/^z>) ![c](http://h/d^)\n",
+                    "b.md": "B\n=\n\n`b <http://h/^z>`_ and [b](<http://h/^z>)\n"})
+        said = self.build("-E")[1]
+        self.assertEqual(sorted(self.told(said)), [("a.text", 3, 15), ("a.text", 3, 35), ("b.md", 4, 14)], said)
+
+    def test_a_long_link(self):
+        """Its beginning is shown."""
+        self.write({"conf.py": "extensions = ['urlcheck.sphinx']\nexclude_patterns = ['mst.md', 'out']\n"})
+        self.write({"index.rst": "T\n=\n\n.. image:: " + PICTURE + "\n"})
+        said = self.build("-E")[1]
+        self.assertIn(PICTURE[:120] + ".. (16023 code points): U+005E", said)
+        self.assertNotIn(PICTURE[:121], said)
 
 
 @unittest.skipUnless(importlib.util.find_spec("mkdocs"), "MkDocs isn't installed")
@@ -336,7 +378,7 @@ class MkDocs(Built):
         status, said = self.build()
         self.assertEqual(status, 0, said)
         wanted = places_of({"index.md": PAGE, "b.md": "\n\n[x](../c^9.png)"})
-        # (the one with a space is a link for Python-Markdown alone: its space comes first)
+        # (the one with a space is a link only for Python-Markdown: its space comes first)
         wanted = {(name, line, column - 1 if line == 10 and column < 20 else column) for name, line, column in wanted}
         self.assertEqual(sorted(self.told(said)), sorted(wanted), said)
         self.assertEqual(self.build("--strict")[0], 1)
@@ -367,6 +409,47 @@ class MkDocs(Built):
                 self.assertIn(warning, "".join(lines))
                 wanted = places + [(3, 5)] * len(lines)
                 self.assertEqual(sorted(self.told(said)), sorted(("index.md", *place) for place in wanted), said)
+
+    def test_a_long_link(self):
+        """Its beginning is shown."""
+        self.write({"docs/index.md": "# T\n\n![a](" + PICTURE + ")\n"})
+        said = self.build()[1]
+        self.assertIn(": " + PICTURE[:120] + ".. (16023 code points): U+005E", said)
+        self.assertNotIn(PICTURE[:121], said)
+
+    @unittest.skipUnless(HAS_TOML, "nothing reads TOML")
+    def test_a_project(self):
+        """What the plugin's settings say goes before the project's file, even if it is the default."""
+        self.write({".urlcheck.toml": "profile = 'wide'\nno-empty = true\ngfm = true\n"})
+        self.write({"docs/index.md": "# T\n\n[a](http://a_b/) <img src=''> http://h/^\n"})
+        for settings, rules in (("[urlcheck]", ["code-point"]), ("[{urlcheck: {profile: standard}}]", ["host-domain", "code-point"]),
+                                ("[{urlcheck: {gfm: false}}]", []), ("[{urlcheck: {no_empty: false}}]", ["empty", "code-point"])):
+            said = self.build(settings=settings)[1]
+            self.assertEqual(re.findall(r"\[([a-z-]+)\]$", said, re.M), rules, (settings, said))
+
+    @unittest.skipUnless(HAS_TOML, "nothing reads TOML")
+    def test_a_server(self):
+        """A project's file that is saved has MkDocs's server build again, by what it says now."""
+        self.write({".urlcheck.toml": "profile = 'wide'\n", "docs/index.md": "# T\n\n[a](http://a_b/)\n"})
+        self.write({"mkdocs.yml": "site_name: x\nplugins: [urlcheck]\n"})
+        words = [sys.executable, "-u", "-m", "mkdocs", "serve", "-a", "127.0.0.1:0"]
+        server = subprocess.Popen(words, cwd=self.room, stdout=subprocess.PIPE, stderr=subprocess.STDOUT, text=True)
+        self.addCleanup(server.stdout.close)
+        self.addCleanup(server.wait)
+        self.addCleanup(server.kill)
+        # (one that never says it is ended, so that the test fails)
+        ending = threading.Timer(90, server.kill)
+        ending.start()
+        self.addCleanup(ending.cancel)
+        said = []
+        for line in server.stdout:
+            said.append(line)
+            if "Serving on" in line:
+                self.assertNotIn("[host-domain]", "".join(said))
+                self.write({".urlcheck.toml": "profile = 'standard'\n"})
+            if "[host-domain]" in line:
+                break
+        self.assertIn("index.md:3:12: http://a_b/: ", said[-1], said)
 
     def test_settings(self):
         self.write({"docs/index.md": "# T\n\n[a](http://a_b/) [b](mailto:^)\n"})

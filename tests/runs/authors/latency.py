@@ -1,4 +1,4 @@
-"""How long the server takes from a change of a page with 2,000 wrong links to what is said of it: latency.py. Beside the
+"""How long the server takes from a change of a page with 5,000 wrong links to its diagnostics: latency.py. Besides the
 clock's time it says the processor's, of the server and of what checks for it, which a busy machine changes less. The package
 is on PYTHONPATH."""
 
@@ -8,15 +8,15 @@ import time
 
 from server import Client, at
 
-LINKS, CHANGES = 2000, 9
+LINKS, CHANGES = 5000, 5
 PAGES = {
     "HTML": ("a.html", "<p>text <a href='http://h/a{} b'>a</a> and more\n"),
     "Markdown": ("a.md", "text [a](http://h/a{}^b) and more\n\n"),
     "reStructuredText": ("a.rst", "text `a <http://h/a{}^b>`__ and more\n\n"),
     "a list": ("a.links", "http://h/a{} b\n"),
 }
-MOST, MOST_OF = 500, {"reStructuredText": 1500}
-"""How many milliseconds of the processor's time a change takes at most, on a busy machine too, and where that is more."""
+MOST = 600
+"""How many milliseconds of the processor's time a change takes at most, on a busy machine too."""
 
 
 def processor_time(process):
@@ -34,6 +34,7 @@ def processor_time(process):
 def measured(name, line):
     """The milliseconds of a change: the median of the clock's, and the mean of the processor's."""
     client = Client({})
+    client.patience = 300
     uri = "file:///nowhere/" + name
     found = client.open(uri, "".join(line.format(number) for number in range(LINKS)))
     if len(found) != LINKS:
@@ -55,7 +56,7 @@ def main():
         clock, processor = measured(name, line)
         said = "authors: {} links of {}: a change takes {:.0f} ms, {:.0f} of the processor"
         print(said.format(LINKS, kind, clock, processor))
-        if processor > MOST_OF.get(kind, MOST):
+        if processor > MOST:
             sys.exit("FAILED: a change of {} takes {:.0f} ms of the processor".format(kind, processor))
 
 

@@ -4,11 +4,13 @@ should send. The package is on PYTHONPATH."""
 import importlib.util
 import json
 import os
+import queue
 import random
 import re
 import subprocess
 import sys
 import tempfile
+import threading
 import time
 import unittest
 
@@ -17,6 +19,8 @@ from urlcheck._editors.editing import LinePlaces, Text, lines_of
 
 PROGRAM = [sys.executable, "-m", "urlcheck.language_server"]
 LINK = "[x](http://h/a^b)"
+PATIENCE = 60
+"""How many seconds a server may take to say something."""
 
 
 def at(line, begin, end=None, last=None):
@@ -34,6 +38,10 @@ class Client:
         self.notified = []
         self.asked = []
         self.versions = {}
+        self.patience = PATIENCE
+        self.said = queue.Queue()
+        self.reader = threading.Thread(target=self.receive, daemon=True)
+        self.reader.start()
         if capabilities is not False:
             given = {"processId": None, "rootUri": None, "capabilities": capabilities or {}, "initializationOptions": options}
             self.can = self.ask("initialize", given)["result"]
@@ -55,17 +63,25 @@ class Client:
         self.send({"jsonrpc": "2.0", "id": self.number, "method": method, "params": params})
         return self.number
 
-    def read(self):
+    def receive(self):
+        """Takes what the server says, until its end."""
         length = 0
-        for line in iter(self.process.stdout.readline, b"\r\n"):
-            if not line:
-                return None
+        for line in iter(self.process.stdout.readline, b""):
             if line.startswith(b"Content-Length: "):
                 length = int(line.split(b":")[1])
-        return json.loads(self.process.stdout.read(length).decode())
+            if line == b"\r\n":
+                self.said.put(json.loads(self.process.stdout.read(length).decode()))
+        self.said.put(None)
+
+    def read(self):
+        """What the server says next, or nothing at its end. One that says nothing for long fails the test."""
+        try:
+            return self.said.get(timeout=self.patience)
+        except queue.Empty:
+            raise AssertionError("the server has said nothing for {} seconds".format(self.patience)) from None
 
     def answer(self, number):
-        """The answer to a request; what is told until then is kept."""
+        """The answer to a request; notifications until then are kept."""
         while True:
             said = self.read()
             if said is None or ("method" not in said and said.get("id") == number):
@@ -114,6 +130,7 @@ class Client:
         self.close()
 
     def close(self):
+        self.reader.join()
         for pipe in (self.process.stdin, self.process.stdout, self.process.stderr):
             try:
                 pipe.close()
@@ -122,7 +139,7 @@ class Client:
 
 
 def shown(diagnostics):
-    """Where each begins and ends, and its rule."""
+    """Returns the beginning, the end and the rule of each."""
     found = [(it["range"]["start"], it["range"]["end"], it["code"]) for it in diagnostics]
     return [(a["line"], a["character"], b["line"], b["character"], code) for a, b, code in found]
 
@@ -212,7 +229,7 @@ class Served(unittest.TestCase):
         self.assertIsNone(client.ask("textDocument/hover", place)["result"])
         actions = client.actions(uri, at(1, 0, 99))
         self.assertEqual([(it["title"], it["isPreferred"]) for it in actions],
-                         [("Write http://h/a%5Eb (the same URL)", True), ("Write http://z (the same URL)", True)])
+                         [("Write http://h/a%5Eb (the same URL)", True), ("Write http://z (the same URL)", False)])
         for action in actions[::-1]:
             (edit,) = action["edit"]["changes"][uri]
             client.change(uri, {"range": edit["range"], "text": edit["newText"]})
@@ -220,14 +237,14 @@ class Served(unittest.TestCase):
         while len(left) > 1:
             left = client.diagnostics(uri)
         self.assertEqual([it["code"] for it in left], ["host-domain"])
-        # An empty range and one that only touches; of all at once, those that stay the same URL.
-        client.change(uri, {"text": "[a](b^) [c](d^) [e](f%4)\n"})
+        # An empty range and one that only touches; of all at once, those that stay the same URL or the same text.
+        client.change(uri, {"text": "[a](b^) [c](d^) [e](f%zz)\n"})
         client.diagnostics(uri)
         self.assertEqual(len(client.actions(uri, at(0, 6))), 1)
         self.assertEqual(client.actions(uri, at(0, 8)), [])
         self.assertEqual(client.actions(uri, at(0, 0, 20), only=["refactor"]), [])
         (every,) = client.actions(uri, at(0, 0), only=["source.fixAll"])
-        self.assertEqual([it["newText"] for it in every["edit"]["changes"][uri]], ["b%5E", "d%5E"])
+        self.assertEqual([it["newText"] for it in every["edit"]["changes"][uri]], ["b%5E", "d%5E", "f%25zz"])
         client.tell("textDocument/didClose", {"textDocument": {"uri": uri}})
         self.assertEqual(client.diagnostics(uri), [])
         self.assertEqual(client.end(), 0)
@@ -350,6 +367,7 @@ class Served(unittest.TestCase):
     def test_limits(self):
         """A text that takes all memory ends the process that checks, and the next text is checked by another."""
         client = self.start()
+        client.patience = 300
         (found,) = client.open("file:///nowhere/a.md", "[a](<b c>)\n\n" * 400_000)
         self.assertIn("can't be checked: ", found["message"])
         self.assertEqual(len(client.open("file:///nowhere/b.md", LINK)), 1)

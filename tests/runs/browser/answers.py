@@ -18,7 +18,7 @@ import sys
 sys.path.insert(0, os.path.join(os.path.dirname(os.path.abspath(__file__)), "..", "library"))
 library = importlib.import_module("cases")
 
-# Beside those of the library: controls, what turns the direction of a text, markup, and a long text.
+# Besides the library's: controls, what turns the direction of a text, markup, and a long text.
 MORE = [
     ("http://h/\u202e\u2066x\u2069?\u200f#\u00ad", None),
     ("http://h/<script>alert(1)</script><img src=x onerror=alert(1)>", None),

@@ -1,11 +1,12 @@
 // What callers of urlcheck.js see: refusals by their types, out of memory and the call after it, memory that doesn't
-// grow with the number of calls, instances beside each other, a thread of its own, and each way to give the module.
+// grow with the number of calls, instances next to each other, a thread of its own, and each way to give the module.
 // Usage: node calls.mjs FOLDER
 import assert from 'node:assert/strict'
 import { cpSync, mkdtempSync, readFileSync, readdirSync, rmSync } from 'node:fs'
 import { tmpdir } from 'node:os'
 import { join, resolve } from 'node:path'
 import { pathToFileURL } from 'node:url'
+import { runInNewContext } from 'node:vm'
 import { Worker } from 'node:worker_threads'
 import { limited } from './limited.mjs'
 
@@ -31,7 +32,7 @@ async function withMemory(source) {
 }
 
 /** The calls that check a text. */
-const CALLS = ['check', 'isValid', 'faults', 'resolve', 'mend']
+const CALLS = ['check', 'isValid', 'violations', 'resolve', 'mend']
 
 const tests = {
   async 'each way to give the module'() {
@@ -104,7 +105,7 @@ const tests = {
     assert.equal(urlcheck.resolve('urn:a ?q', { profile }).record.opaquePath, 'a%20')
     const base = urlcheck.base('file://h/C:/a', { profile })
     assert.equal(urlcheck.resolve('/x', { base }).text, 'file://h/C:/x')
-    assert.deepEqual(urlcheck.faults('//C:/x', { base }), [{ rule: 'host-domain', place: 2, index: 2 }])
+    assert.deepEqual(urlcheck.violations('//C:/x', { base }), [{ rule: 'host-domain', place: 2, index: 2 }])
     assert.throws(() => urlcheck.base('http://256/', { profile }), { name: 'BaseRefused', rule: 'host-number' })
     assert.throws(() => urlcheck.base('//h'), { message: 'the base is refused at place 0: it has no scheme [no-scheme]' })
   },
@@ -143,8 +144,8 @@ const tests = {
       assert.equal(checker.check('//c_d/', { base: wide }).host, 'c_d')
       assert.equal(checker.check('//c_d/', { base: wide, profile: 'wide' }).host, 'c_d')
       assert.equal(checker.check('//c_d/', { base: plain, profile: 'standard' }).rule, 'host-domain')
-      assert.deepEqual(checker.faults('x^', { base: opaque }).map(fault => fault.rule), ['opaque-base', 'code-point'])
-      assert.deepEqual(checker.faults('x^', { base: plain }), [{ rule: 'code-point', place: 1, index: 1 }])
+      assert.deepEqual(checker.violations('x^', { base: opaque }).map(fault => fault.rule), ['opaque-base', 'code-point'])
+      assert.deepEqual(checker.violations('x^', { base: plain }), [{ rule: 'code-point', place: 1, index: 1 }])
       assert.equal(checker.resolve('../x', { base: plain }).text, 'http://h/x')
       assert.equal(checker.resolve('y', { base: wide }).text, 'http://a_b/y')
       assert.equal(checker.check('x').rule, 'no-scheme')
@@ -160,7 +161,7 @@ const tests = {
     answers(urlcheck)
     const long = urlcheck.base(`http://h/${'b'.repeat(6_000_000)}`)
     answers(urlcheck)
-    assert.equal(urlcheck.faults(`${' '.repeat(300_000)}`, { base: long }).length, 300_000)
+    assert.equal(urlcheck.violations(`${' '.repeat(300_000)}`, { base: long }).length, 300_000)
     answers(urlcheck)
     assert.equal(urlcheck.resolve('../x', { base: long }).text, 'http://h/x')
     assert.throws(() => { 'use strict'; plain.text = 'urn:b' }, TypeError)
@@ -189,7 +190,7 @@ const tests = {
     const copied = { name: 'TypeError', message: 'the base is neither a string nor what `base` gave' }
     for (const base of [structuredClone(held), {}]) assert.throws(() => urlcheck.check('x', { base }), copied)
     for (const options of ['http://h/', 'wide', 2, true]) {
-      const wrong = { name: 'TypeError', message: /^the options are no object/ }
+      const wrong = { name: 'TypeError', message: /^the options aren.t an object/ }
       assert.throws(() => urlcheck.base('urn:a', options), wrong)
       for (const call of CALLS) assert.throws(() => urlcheck[call]('urn:a', options), wrong)
     }
@@ -231,7 +232,7 @@ const tests = {
     for (const text of ['http://h/\u{1f600}\0', 'http://h/\u{1f600}\0b']) {
       assert.deepEqual(urlcheck.check(text), refused)
       assert.deepEqual(urlcheck.resolve(text), refused)
-      assert.deepEqual(urlcheck.faults(text), [{ rule: 'code-point', place: 10, index: 11 }])
+      assert.deepEqual(urlcheck.violations(text), [{ rule: 'code-point', place: 10, index: 11 }])
       assert.equal(urlcheck.isValid(text), false)
     }
     assert.throws(() => urlcheck.check('x', { base: 'http://h/\0' }), { name: 'BaseRefused', place: 9 })
@@ -285,13 +286,13 @@ const tests = {
     assert.equal(urlcheck.version, version)
     assert.ok(urlcheck.rules.length > 0)
     for (const rule of urlcheck.rules) {
-      const { rule: name, sentence, asks, section, example } = urlcheck.explain(rule)
+      const { rule: name, sentence, requires, section, example } = urlcheck.explain(rule)
       assert.equal(name, rule)
-      for (const text of [sentence, asks, section]) assert.ok(text.length > 2)
+      for (const text of [sentence, requires, section]) assert.ok(text.length > 2)
       const options = { base: example.base }
       const refused = urlcheck.check(example.text, options)
       assert.deepEqual([refused.valid, refused.rule, refused.place], [false, rule, example.place])
-      assert.equal(urlcheck.check(example.meant, options).valid, true)
+      assert.equal(urlcheck.check(example.mended, options).valid, true)
     }
   },
 
@@ -316,10 +317,39 @@ const tests = {
     assert.equal(urlcheck.checkMany(bytes('//a_b/'), { base: urlcheck.base('urn://h', { profile: 'wide' }) }).lines, 1)
     assert.equal(urlcheck.checkMany(bytes(`\n${list}`).subarray(1)).lines, 6)
     for (const wrong of ['urn:a', undefined, [1], new ArrayBuffer(1), new Uint16Array(1)]) {
-      assert.throws(() => urlcheck.checkMany(wrong), { name: 'TypeError', message: 'the lines are no Uint8Array' })
+      assert.throws(() => urlcheck.checkMany(wrong), { name: 'TypeError', message: "the lines aren't a Uint8Array" })
     }
     assert.throws(() => urlcheck.checkMany(bytes('x'), { base: 'x' }), BaseRefused)
     assert.throws(() => urlcheck.checkMany(bytes('x'), { profile: 'Wide' }), TypeError)
+    const elsewhere = runInNewContext('Uint8Array.of(120, 10)')
+    assert.deepEqual(urlcheck.checkMany(elsewhere).refused.map(it => it.rule), ['no-scheme'])
+  },
+
+  async 'a base after what a report has put into its room'() {
+    const urlcheck = await load()
+    const report = urlcheck.report('checkstyle')
+    for (const name of ['http://h/a/b', 'x']) {
+      report.fileBegin(name)
+      for (const call of CALLS) assert.throws(() => urlcheck[call]('../x', { base: '' }), BaseRefused, call)
+      assert.throws(() => urlcheck.base(''), BaseRefused)
+      assert.equal(urlcheck.resolve('../x', { base: 'http://k/a/' }).text, 'http://k/x')
+    }
+  },
+
+  async 'what is read of a diagnostic is read before it is told'() {
+    const urlcheck = await load()
+    const told = { file: 'a', line: 1, text: 'http://h/ b', rule: 'code-point', place: 9 }
+    const mended = { text: 'http://h/%20b', kind: 'same', isOffered: true }
+    const disturbed = { ...mended, get isOffered() { urlcheck.check('http://zzz/b'); return true } }
+    const [wanted, found] = [mended, disturbed].map(it => urlcheck.report('json').diagnostic({ ...told, mended: it }))
+    assert.equal(found, wanted)
+  },
+
+  async 'options that no call takes'() {
+    const urlcheck = await load()
+    for (const options of [{ Profile: 'wide' }, { base: 'http://h/', strict: true }]) {
+      for (const call of CALLS) assert.throws(() => urlcheck[call]('urn:a', options), { name: 'TypeError', message: /no option/ })
+    }
   },
 
   async 'many lines, and long ones'() {
@@ -359,6 +389,10 @@ const tests = {
       assert.equal(JSON.parse(urlcheck.report('json', undefined, wording).diagnostic(told)).message, sentence)
     }
     assert.ok(urlcheck.message('http://a_b/', { rule: 'host-domain', place: 8 }).endsWith("; profile='wide' allows it"))
+    const base = urlcheck.base('http://h/')
+    assert.ok(urlcheck.message('//a_b/', { rule: 'host-domain', place: 3 }, { base }).endsWith("; profile='wide' allows it"))
+    assert.ok(urlcheck.message('//a_b/', { rule: 'host-domain', place: 3 }).endsWith('a domain'))
+    assert.throws(() => urlcheck.message('//a_b/', { rule: 'host-domain', place: 3 }, { base: 'h i' }), { name: 'BaseRefused' })
     for (const wording of ['', 'Options', null, 0, 4, 'toString']) {
       assert.throws(() => urlcheck.message('a', { rule: 'percent', place: 0 }, { wording }), { name: 'TypeError', message: /wording/ })
       assert.throws(() => urlcheck.report('gnu', undefined, wording), { name: 'TypeError', message: /wording/ })
@@ -406,7 +440,7 @@ const tests = {
     const { urlcheck, memory } = await withMemory(bytes)
     const calls = () => {
       urlcheck.resolve('http://b\u00fccher.example/\u00e9?q', { base: 'http://h/' })
-      urlcheck.faults('http://h/ ^ ^ ^')
+      urlcheck.violations('http://h/ ^ ^ ^')
       urlcheck.mend('http://b\u00fccher.example/ ^')
       urlcheck.isValid('http://b\u00fccher.example/')
       urlcheck.check('http://b\u00fccher.example/')
@@ -424,7 +458,7 @@ const tests = {
     assert.deepEqual(urlcheck.check(`${long}\u00e9 `), { valid: false, rule: 'code-point', place: long.length + 1,
       index: long.length + 1 })
     assert.equal(urlcheck.resolve(`${long}\u00e9`).text, `${long}%C3%A9`)
-    assert.equal(urlcheck.faults(`http://h/${' '.repeat(100_000)}`).length, 100_000)
+    assert.equal(urlcheck.violations(`http://h/${' '.repeat(100_000)}`).length, 100_000)
     const grown = memory.buffer.byteLength
     assert.equal(urlcheck.check('http://h/\u00e9').path, '/\u00e9')
     assert.equal(urlcheck.check('x', { base: long }).path, 'x')
@@ -441,7 +475,7 @@ const tests = {
         assert.equal(urlcheck.check(text).ranges.path[1], text.length)
         assert.equal(urlcheck.check('x', { base: text }).path, 'x')
         assert.equal(urlcheck.check(text, { base: text }).path.length, text.length - 8)
-        assert.equal(urlcheck.faults(`${text} `, { base: `${text}/` })[0].index, text.length)
+        assert.equal(urlcheck.violations(`${text} `, { base: `${text}/` })[0].index, text.length)
       }
     }
   },
@@ -472,7 +506,7 @@ const tests = {
       assert.equal(urlcheck.check(text).valid, true)
       assert.throws(() => urlcheck.resolve(text + text), RangeError)
       isShort()
-      assert.throws(() => urlcheck.faults(`http://h/${'^'.repeat(100_000)}`), RangeError)
+      assert.throws(() => urlcheck.violations(`http://h/${'^'.repeat(100_000)}`), RangeError)
       isShort()
     }
     // The largest text that has room leaves none for its record; the room is given up then.
@@ -501,7 +535,7 @@ const tests = {
     const [one, other] = await Promise.all([load(), load()])
     const kept = one.check('http://one/a')
     assert.equal(other.check('http://other/bcd').path, '/bcd')
-    assert.equal(one.faults('http://h/ ').length, 1)
+    assert.equal(one.violations('http://h/ ').length, 1)
     assert.equal(kept.host, 'one')
     assert.equal(kept.path, '/a')
   },

@@ -39,7 +39,7 @@ function answered(urlcheck, text, options) {
     }
     return {
       first: ended(1, [refusedLine(resolved)]),
-      all: ended(1, urlcheck.faults(text, options).map(refusedLine)),
+      all: ended(1, urlcheck.violations(text, options).map(refusedLine)),
       mend
     }
   } catch (error) {
@@ -57,15 +57,15 @@ function faultOfCheck(urlcheck, text, options) {
   } catch (error) {
     return error.name === 'BaseRefused' ? null : `check throws ${error}`
   }
-  const first = urlcheck.faults(text, options)[0]
+  const first = urlcheck.violations(text, options)[0]
   if (urlcheck.isValid(text, options) !== answer.valid) return 'check and isValid differ'
   if (!answer.valid) {
     const index = [...text].slice(0, answer.place).join('').length
     if (answer.index !== index) return `the index ${answer.index} isn't the place ${answer.place}`
     const isFirst = first && first.place === answer.place && first.rule === answer.rule && first.index === index
-    return isFirst ? null : 'check and faults differ'
+    return isFirst ? null : 'check and violations differ'
   }
-  if (first) return 'a valid text has faults'
+  if (first) return 'a valid text has violations'
   const { scheme, host, port, path, query, fragment, ranges } = answer
   const part = (front, word) => (word === null ? '' : front + word)
   const again = (scheme === null ? '' : `${scheme}:`) + part('//', host) + part(':', port) + path + part('?', query) +
@@ -113,7 +113,7 @@ function holding(urlcheck) {
   return {
     check: (text, options) => urlcheck.check(text, held(options)),
     isValid: (text, options) => urlcheck.isValid(text, held(options)),
-    faults: (text, options) => urlcheck.faults(text, held(options)),
+    violations: (text, options) => urlcheck.violations(text, held(options)),
     resolve: (text, options) => urlcheck.resolve(text, held(options)),
     mend: (text, options) => urlcheck.mend(text, held(options))
   }
@@ -127,7 +127,7 @@ const BASES = ['ftp://h/', 'http://h/a', 'https://h:1/', 'file:///C:/d', 'file:/
 function differencesOfHeld(urlcheck, withHeld, text, profile) {
   const found = []
   for (const base of BASES) {
-    for (const call of ['check', 'isValid', 'faults']) {
+    for (const call of ['check', 'isValid', 'violations']) {
       const [is, wants] = [withHeld, urlcheck].map(checker => JSON.stringify(checker[call](text, { base, profile })))
       if (is !== wants) found.push(`${call} against ${base}: ${is.slice(0, 300)}, and not ${wants.slice(0, 300)}`)
     }

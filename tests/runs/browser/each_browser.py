@@ -4,8 +4,8 @@ found.
     each_browser.py FOLDER LIMITED CASES PROGRAM
 
 FOLDER is what tools/build-page has made, LIMITED the same with a module whose memory hardly grows, and CASES what
-answers.py has written. Words of the environment: BROWSERS names those that are asked for, else all three are; ONLY is
-the name of the one test to be run; and with ALL everything is tried in each, else all tests in Chromium, a sample in
+answers.py has written. Words of the environment: BROWSERS names those that are asked for, otherwise all three are; ONLY is
+the name of the one test to be run; and with ALL everything is tried in each, otherwise all tests in Chromium, a sample in
 the others, and some of the spoiled copies.
 """
 
@@ -34,7 +34,7 @@ LONGEST = 1200
 
 
 def tests_of(session: Session, only: str | None) -> list[PageCase]:
-    """The tests in the browser of a session, or the one of this name."""
+    """The tests in the browser of a session, or the test of this name."""
     found: list[PageCase] = []
     for case in CASES:
         here = type(case.__name__, (case,), {"session": session})

@@ -69,10 +69,10 @@ script 'a base that stays held where another is given' calls memory.js \
     's/if (base === this.heldText \&\& /if (this.heldText \&\& /'
 script 'a base that stays held by another profile' vectors memory.js 's/ \&\& profile === this.heldProfile) return true/) return true/'
 script 'a base that stays in its room where another is given' vectors memory.js 's/^    if (base !== this.baseText) {$/    if (!this.baseText) {/'
-script 'a name of a file taken for the base' calls memory.js "/this.base.set(part, at)/,/^  }/s/this.baseText = ''/this.baseText += ''/"
+script 'a name of a file taken for the base' calls memory.js "/this.base.set(part, at)/,/^  }/s/this.baseText = undefined/this.baseText += ''/"
 script 'a base that is checked by another profile' calls options.js 's/=== undefined || profile === number/!== null/'
 script 'a refused base that is held' calls urlcheck.js 's/if (!this.#room.hold(base, profile)) this.#isRefused(base)/this.#room.hold(base, profile)/'
-script 'no memory taken for a refusal' calls urlcheck.js 's/ === 1 || this.check(text, options).valid/ === 1/'
+script 'no memory taken for a refusal' calls urlcheck.js 's/if (verdict === MEMORY) room.stopForMemory()/if (verdict === MEMORY) return true/'
 script 'a wrong place of the length of a text' vectors layout.js 's/^export const LENGTH = 4$/export const LENGTH = 3/'
 script 'a mended text of the next kind' vectors urlcheck.js 's/MEND_KINDS\[answer\[MEND_KIND\] - 1\]/MEND_KINDS[answer[MEND_KIND]]/'
 script 'a URL taken for the text' vectors urlcheck.js 's/answer\[IS_SAME\] === 1 ? text/answer[IS_SAME] < 2 ? text/'
@@ -85,6 +85,8 @@ script 'a lone surrogate let through' calls memory.js 's/^    if (written !== te
 script 'a room that is too small' calls memory.js 's/^const SMALL_ROOM = 3 \* SHORT$/const SMALL_ROOM = SHORT/'
 script 'a memory that is seen as it was' calls memory.js \
     's/if (this.answer.length !== 0) return$/if (this.answer.length !== 0 || this.heldText) return/'
+script 'a base that is taken for the empty one' calls memory.js 's/^    this.baseText = undefined$/    this.baseText = ""/'
+script 'an option that is passed over' calls options.js '/there is no option/d'
 script 'large rooms kept after out of memory' calls memory.js 's/^    if (this.textRoom > SMALL_ROOM || .*$//'
 script 'a profile of any name' calls options.js 's/^  throw new TypeError("the profile.*$/  return 0/'
 script 'lines against a base that is ignored' calls lines.js 's/from, profile, isHeld)/from, profile, 0)/'
@@ -100,15 +102,17 @@ script 'each diagnostic taken for the first' calls reports.js 's/^    this.#isFi
 script 'a mended text that is left out' reports reports.js "s/mended?.text ?? ''/''/"
 script 'two ends of a report that are swapped' calls reports.js "s/'whole', 'unread', 'stopped'\]/'whole', 'stopped', 'unread']/"
 script 'a sentence by another profile' reports urlcheck.js 's/exports.message(length, profile,/exports.message(length, 0,/'
-script 'a report by another profile' reports reports.js 's/this.#numbers.ofProfile(profile)/0/'
+script 'a report by another profile' reports reports.js 's/message(length, by.profile,/message(length, 0,/'
+script 'a report against no base' reports reports.js 's/by.profile, isHeld,/by.profile, 0,/'
 script 'a report in another unit' reports reports.js 's/exports.diagnostic(this.#format, this.#unit/exports.diagnostic(this.#format, 0/'
 script 'a mended text that is offered by none' reports reports.js 's/mended?.isOffered ? 1 : 0/0/'
-script 'a sentence of other words' calls urlcheck.js 's/exports.message(length, profile, wording,/exports.message(length, profile, 0,/'
-script 'a report of other words' calls reports.js 's/ofProfile(profile), this.#wording,/ofProfile(profile), 0,/'
+script 'a sentence of other words' calls urlcheck.js 's/this.#hold(base, profile), wording,/this.#hold(base, profile), 0,/'
+script 'a sentence against no base' calls urlcheck.js 's/message(length, profile, this.#hold(base, profile),/message(length, profile, 0,/'
+script 'a report of other words' calls reports.js 's/isHeld, this.#wording,/isHeld, 0,/'
 script 'each mended text taken for one to write' calls urlcheck.js 's/answer\[IS_OFFERED\] === 1/true/'
 script 'a mended text of another kind' reports reports.js 's/this.#numbers.ofKind(mended.kind)/3/'
 
-# The heap alone: with this edit of it its test fails.
+# Only the heap: with this edit of it its test fails.
 heap() {
     rm -rf "$room/module"
     cp -r "$top/bindings/web/module" "$room/module"

@@ -1,5 +1,5 @@
 """Firefox without geckodriver, which Debian doesn't have: WebDriver over HTTP, each request of which is handed to
-Marionette, whose commands are those of WebDriver. One session."""
+Marionette, which has the commands of WebDriver. One session."""
 
 from __future__ import annotations
 

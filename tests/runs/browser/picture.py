@@ -20,7 +20,7 @@ from page import Page
 WIDTH = 1100
 # In bytes: so large a picture may be.
 LARGEST = 200_000
-# Of the chunk that ends a picture, which has no data.
+# The chunk that ends a picture has no data.
 END_BYTES = 12
 
 

@@ -26,13 +26,13 @@ function reported(name, format, unit, options) {
   for (const { line, start, end, rule, place } of urlcheck.checkMany(bytes, options).refused) {
     const text = decoder.decode(bytes.subarray(start, end))
     const mended = report.showsMended && rule !== 'not-utf8' ? urlcheck.mend(text, options) : null
-    const told = { file: name, line, text, rule, place, profile: options.profile }
+    const told = { file: name, line, text, rule, place, ...options }
     pieces.push(report.diagnostic({ ...told, mended: mended && 'text' in mended ? mended : null }))
   }
   return [...pieces, report.fileEnd(), report.end()].join('')
 }
 
-/** The sentences of lint's report for compilers are those of the checker on each line, by the profile of the options. */
+/** The sentences of lint's report for compilers are the checker's on each line, under the profile of the options. */
 function areSentencesOf(report, options) {
   const wanted = report.split('\n').filter(line => line !== '').map(line => line.replace(/^.*?: error: (.*) \[[a-z0-9-]+\]$/s, '$1'))
   const found = urlcheck.checkMany(bytes, options).refused.map(({ start, end, rule, place }) =>
@@ -47,7 +47,7 @@ try {
   for (const format of urlcheck.formats) {
     for (const unit of urlcheck.units) {
       const words = ['lint', '--format', format, '--columns', unit, '--profile']
-      for (const [profile, base] of [['standard', null], ['wide', null], ['parser', 'http://h/a/b']]) {
+      for (const [profile, base] of [['standard', null], ['wide', null], ['standard', 'http://h/a/b'], ['parser', 'http://h/a/b']]) {
         const more = base === null ? [] : [`--base=${base}`]
         const ended = spawnSync(program, [...words, profile, ...more, 'list \u00e9.txt'], { cwd: room, maxBuffer: 1 << 28 })
         let said

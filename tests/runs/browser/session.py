@@ -19,14 +19,16 @@ from selenium.webdriver.remote.webdriver import WebDriver
 HERE = os.path.dirname(os.path.abspath(__file__))
 TOP = os.path.dirname(os.path.dirname(os.path.dirname(HERE)))
 # What a sentence of the program says of an option of the command line, which the page doesn't have.
-OPTION = re.compile(r"; --profile \w+ allows it|, or use --profile \w+| \(--base\)")
+OPTION = re.compile(r"; --profile \w+ allows it|, or use --profile \w+|, or give the address of its page \(--base\)")
+# The last resort that it names, and what the page says in its place.
+BASE, ADDRESS = "; give the address of its page (--base)", "; write the whole address"
 # What is first in the head of the page.
 FIRST = '<meta charset="utf-8">'
 
 
 def without_options(report: str) -> str:
     """What the program writes, without the options of the command line that its sentences name."""
-    return OPTION.sub("", report)
+    return OPTION.sub("", report).replace(BASE, ADDRESS)
 
 
 @dataclass(frozen=True)

@@ -38,7 +38,7 @@ BUSY = "take(message) {\n    for (const end = performance.now() + 4000; performa
 
 ALL = (
     Spoiled(
-        "a wrong offset of a fault's place", "all_vectors", "check and faults differ",
+        "a wrong offset of a fault's place", "all_vectors", "check and violations differ",
         "layout.js", "export const FAULT_BYTE_PLACE = 4\n", "export const FAULT_BYTE_PLACE = 2\n", True,
     ),
     Spoiled(
@@ -50,12 +50,12 @@ ALL = (
         "page/main.js", "byId('text').addEventListener('input'", "byId('text').addEventListener('change'", True,
     ),
     Spoiled(
-        "a sentence with an option of the command line", "rules", " != 1",
+        "a sentence with an option of the command line", "rules", "unexpectedly found in",
         "page/text-view.js", "{ profile, wording: 'none' }", "{ profile, wording: 'options' }",
     ),
     Spoiled(
         "a rule that asks nothing", "rules", "not found in",
-        "page/text-view.js", "element('p', { class: 'asks' }, asks,", "element('p', { class: 'asks' },",
+        "page/text-view.js", "element('p', { class: 'asks' }, requires,", "element('p', { class: 'asks' },",
     ),
     Spoiled(
         "a base whose refusal is called one of the text", "bases_and_profiles", "Base refused",

@@ -1,4 +1,4 @@
-"""The page with a list, or an HTML file: its report is that of the program, and it can be stopped."""
+"""The page with a list, or an HTML file: its report is the program's, and it can be stopped."""
 
 from __future__ import annotations
 
@@ -133,6 +133,49 @@ class Lists(PageCase):
         self.page.run("document.querySelector('input[value=wide]').click()")
         self.page.wait_for_report("11 links, 4 refused")
         self.told = "11 links"
+
+    def test_encodings(self) -> None:
+        """A document is read in the encoding that it names, and one that isn't in it is refused."""
+        self.page.open(view="html")
+        link = "<a href='http://\u00e9.example/'>"
+        for name, text, encoding, told in (
+            ("latin.html", "<meta charset=iso-8859-1>" + link, "latin-1", "1 link, 0 refused"),
+            ("marked.html", "\ufeff" + link, "utf-16-le", "1 link, 0 refused"),
+            ("named.html", "<meta http-equiv=x content='text/html; charset=windows-1252'>" + link, "latin-1", "1 link, 0 refused"),
+            ("plain.html", link, "utf-8", "1 link, 0 refused"),
+            ("wrong.html", link, "latin-1", "the file isn\u2019t in utf-8, which it is read as"),
+        ):
+            with open(os.path.join(self.session.room, name), "wb") as out:
+                out.write(text.encode(encoding))
+            self.page.drop(name, "/room/" + name)
+            self.page.wait_for_report(told)
+
+    def test_what_stays(self) -> None:
+        """A list that waits to be checked isn't shown in another view, and a long paste keeps what is in the field."""
+        self.page.open(view="list")
+        self.page.fill("list", "http://h/ ")
+        self.page.run("document.querySelector('nav a[data-view=text]').click()")
+        self.page.run_until_done("setTimeout(done, 1000)")
+        self.assertTrue(self.page.run("return document.querySelector('#report').hidden"))
+        self.page.run("document.querySelector('nav a[data-view=list]').click()")
+        self.page.fill("list", "http://first/ ")
+        self.page.run(
+            "const data = new DataTransfer(); data.setData('text/plain', 'http://h/\\n'.repeat(60_000));"
+            "document.querySelector('#list').dispatchEvent("
+            "new ClipboardEvent('paste', { clipboardData: data, bubbles: true, cancelable: true }))"
+        )
+        self.page.wait_for_report("60,000 lines, 1 refused")
+
+    def test_long_attributes(self) -> None:
+        """The links of long attributes are found in a time that grows with them."""
+        self.page.open()
+        took = self.page.run_until_done(
+            "import(words[0] + 'page/links.js').then(({ linksOf }) => {"
+            "const html = `<a href='a${' '.repeat(200_000)}b'><img srcset='a${','.repeat(200_000)}b 1x'>`;"
+            "const start = performance.now(); linksOf(html); done(performance.now() - start) }).catch(failed)",
+            self.page.address,
+        )
+        self.assertLess(took, 3000, "the links of long attributes take long")
 
     def test_all_attributes(self) -> None:
         """The links of each attribute that holds some are those that `urlcheck-documents` takes."""

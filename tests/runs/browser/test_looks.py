@@ -21,7 +21,7 @@ CONTROLS = "a, button, input, select, textarea, progress, [role=radiogroup], [ro
 ROLES = {"link", "button", "textbox", "combobox", "radio", "radiogroup", "progressbar", "region"}
 # What the tab key reaches, one after the other: each by its identifier, its text or its value.
 STOPS = ["One text", "A list", "An HTML file", "example", "text", "base", "standard", "http://h/a%20b", "http://h/a b"]
-# The focus, and whether an outline shows it, perhaps on the label beside a hidden control.
+# The focus, and whether an outline shows it, perhaps on the label next to a hidden control.
 FOCUSED = (
     "const it = document.activeElement; const other = it.nextElementSibling ?? it;"
     "const isSeen = [it, other].some(one => parseFloat(getComputedStyle(one).outlineWidth) > 0"

@@ -113,8 +113,10 @@ class Texts(PageCase):
         shown, message = self.page.text("#faults"), self.message(name, example)
         self.assertEqual(shown.count(message), 1, (name, shown, message))
         self.assertNotIn(message, self.page.verdict()[1], name)
+        # (the page has no options)
+        self.assertNotIn("--", shown, name)
         self.assertIn(name, shown)
-        self.assertIn(rule["asks"], shown, name)
+        self.assertIn(rule["requires"], shown, name)
         marked = self.page.run("return document.querySelector('#drawn .wrong .point').textContent")
         wrong = example["text"][example["place"] :][:1]
         self.assertEqual(marked, {"": "end", " ": "␣"}.get(wrong, wrong), name)
@@ -124,8 +126,9 @@ class Texts(PageCase):
             "return it && ['mended ' + it.dataset.kind, it.querySelector('.try').textContent, it.firstChild.textContent]"
         )
         self.assertEqual(instead and instead[:2], wanted, name)
-        # (of two slashes one may have been meant)
-        hint = "the same URL, written validly, is " if name == "first-segment-empty" else "write instead "
+        # (of two slashes one may have been meant, and no host before a drive letter)
+        is_kept = name in ("first-segment-empty", "drive-after-host")
+        hint = "the same URL, written validly, is " if is_kept else "write instead "
         self.assertIn(instead and instead[2], (None, hint), name)
         for button in [".instead .try"] * (wanted is not None) + ["#faults .try:nth-of-type(2)"]:
             self.page.open(**state)

@@ -1,7 +1,7 @@
 // A caller in TypeScript, as strictly as the compiler can: it is compiled and not run.
 import { BaseRefused, load } from './urlcheck.js'
-import type { Base, Checker, Diagnostic, Explanation, Fault, MendKind, Parts, Profile, Range, Refused } from './urlcheck.js'
-import type { Many, RefusedLine, Report, Resolved, RuleName, Valid, Wording } from './urlcheck.js'
+import type { Base, Checker, Diagnostic, Explanation, MendKind, Parts, Profile, Range, Refused } from './urlcheck.js'
+import type { Many, RefusedLine, Report, Resolved, RuleName, Valid, Violation, Wording } from './urlcheck.js'
 import type * as Wanted from './urlcheck.js'
 import * as written from './written.js'
 
@@ -20,14 +20,14 @@ if (answer.valid) {
 } else {
   const rule: RuleName = answer.rule
   const explained: Explanation = other.explain(rule)
-  console.log(answer.place, answer.index, explained.sentence, explained.example.meant)
+  console.log(answer.place, answer.index, explained.sentence, explained.example.mended)
 }
 
 const profile: Profile = 'wide'
-const faults: Fault[] = urlcheck.faults('x', { base: 'http://h/', profile })
+const violations: Violation[] = urlcheck.violations('x', { base: 'http://h/', profile })
 const resolved: Resolved | Refused = third.resolve('x', { base: null })
 if (resolved.valid) console.log(resolved.text, resolved.record.host?.kind, resolved.record.segments?.length)
-console.log(faults.map(({ rule, index }) => `${rule} ${index}`), urlcheck.rules.length, urlcheck.version)
+console.log(violations.map(({ rule, index }) => `${rule} ${index}`), urlcheck.rules.length, urlcheck.version)
 
 const isValid: boolean = urlcheck.isValid('x', { base: 'http://h/' })
 const mended = urlcheck.mend('http://h/a b')
@@ -42,7 +42,7 @@ console.log(profiles, urlcheck.isValid('urn:a b', { profile: 'parser' }))
 
 const base: Base = urlcheck.base('http://h/', { profile })
 const below: Valid | Refused = urlcheck.check('x', { base })
-console.log(base.text, base.profile, below.valid, other.faults('x', { base }).length)
+console.log(base.text, base.profile, below.valid, other.violations('x', { base }).length)
 console.log(third.resolve('x', { base, profile: base.profile }).valid)
 
 const many: Many = urlcheck.checkMany(new TextEncoder().encode('urn:a\nx'), { base, profile })
@@ -51,10 +51,10 @@ console.log(many.lines - many.judged, lines.map(({ line, start, end, byte }) => 
 
 const wording: Wording = 'none'
 const report: Report = urlcheck.report('sarif', 'utf16', wording)
-console.log(urlcheck.message('x', faults[0], { profile, wording }), JSON.stringify(urlcheck.resolve('urn:a')))
+console.log(urlcheck.message('x', violations[0], { profile, wording }), JSON.stringify(urlcheck.resolve('urn:a')))
 const told: Diagnostic = { file: 'a.txt', line: 1, text: 'x', rule: 'not-utf8', place: 0, mended: null }
 console.log(report.begin() + report.fileBegin('a.txt') + report.diagnostic(told) + report.fileEnd() + report.end())
-console.log(urlcheck.message('x', faults[0]), urlcheck.formats.length, urlcheck.units.length, report.showsMended)
+console.log(urlcheck.message('x', violations[0]), urlcheck.formats.length, urlcheck.units.length, report.showsMended)
 
 try {
   urlcheck.check('x', { base: ':' })

@@ -1,5 +1,5 @@
 // Notes in window.wrong what goes wrong in a page that loads this first: errors of scripts and of what isn't loaded, what
-// its policy forbids, and what is told to the console.
+// its policy forbids, and the messages of the console.
 window.wrong = []
 const note = (...words) => window.wrong.push(words.join(' '))
 addEventListener('error', it => note('error:', it.message ?? it.target.outerHTML), true)

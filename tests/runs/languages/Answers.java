@@ -2,8 +2,8 @@ import example.yuccaeave.urlcheck.Checker;
 import example.yuccaeave.urlcheck.Mended;
 import example.yuccaeave.urlcheck.Profile;
 import example.yuccaeave.urlcheck.Refusal;
-import example.yuccaeave.urlcheck.ResolvedUrl;
 import example.yuccaeave.urlcheck.Url;
+import example.yuccaeave.urlcheck.Valid;
 import example.yuccaeave.urlcheck.Violation;
 import java.io.PrintStream;
 import java.nio.ByteBuffer;
@@ -57,7 +57,7 @@ public final class Answers {
     }
 
     /** The URL with its parts joined again, which has to be its text. */
-    private static String joined(ResolvedUrl url) {
+    private static String joined(Url url) {
         boolean isDotted = !url.host().isPresent() && url.path().startsWith("//");
         return with("", url.scheme()) + ":" + with("//", url.host()) + with(":", url.port()) + (isDotted ? "/." : "")
                 + url.path() + with("?", url.query()) + with("#", url.fragment());
@@ -69,8 +69,8 @@ public final class Answers {
         Optional<Violation> many = checker.checkMany(Collections.singleton(text)).get(0);
         require(checker.isValid(text) != many.isPresent(), "isValid");
         try {
-            Url url = checker.check(text);
-            ResolvedUrl resolved = checker.resolve(text);
+            Valid url = checker.check(text);
+            Url resolved = checker.resolve(text);
             require(!many.isPresent(), "another verdict");
             require(joined(resolved).equals(resolved.toString()), "the parts of the URL aren't it");
             Collections.addAll(fields, "0", shown(url.scheme()), shown(url.host()), shown(url.port()), "+" + url.path(),

@@ -67,7 +67,7 @@ public final class LongTexts {
         }
     }
 
-    /** Texts that fit alone, and not together. */
+    /** Texts that fit one by one, and not together. */
     private static void tooLongTogether() {
         String text = "http://h/" + "a".repeat(499_999_991);
         ends(IllegalArgumentException.class, "the texts have 2500000000 bytes together",

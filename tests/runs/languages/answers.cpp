@@ -49,7 +49,7 @@ std::vector<std::optional<std::string>> texts_of(const char *file) {
 
 std::string at(const urlcheck::violation &wrong) {
     std::ostringstream said;
-    said << wrong.place << ' ' << wrong.byte_place << ' ' << urlcheck::name(wrong.rule).view();
+    said << wrong.place << ' ' << wrong.byte_place << ' ' << urlcheck::name(wrong.rule);
     return said.str();
 }
 
@@ -66,7 +66,7 @@ std::string with(const char *mark, std::optional<std::string_view> part) {
 }
 
 // The URL with its parts joined again, which has to be its text.
-std::string joined(const urlcheck::record &url) {
+std::string joined(const urlcheck::url &url) {
     const bool is_dotted = !url.host() && url.path().substr(0, 2) == "//";
     return with("", url.scheme()) + ":" + with("//", url.host()) + with(":", url.port()) + (is_dotted ? "/." : "") +
            std::string(url.path()) + with("?", url.query()) + with("#", url.fragment());
@@ -99,7 +99,7 @@ template <class Setting> std::string mended(std::string_view text, const Setting
     std::ostringstream said;
     if (!answer) {
         const urlcheck::violation first = violation_of(answer.error());
-        said << "none\trefused " << first.place << ' ' << urlcheck::name(first.rule).view();
+        said << "none\trefused " << first.place << ' ' << urlcheck::name(first.rule);
     } else if (!*answer) {
         said << "valid";
     } else {
@@ -135,7 +135,7 @@ void refuse_mistakes() {
     const urlcheck::violation beyond{urlcheck::rule::percent, 9, 9};
     require(urlcheck::message("x", beyond).error().reason == reason::no_place, "a place after the end");
     auto found = urlcheck::resolve("http://H/");
-    const urlcheck::record kept = *std::move(found);
+    const urlcheck::url kept = *std::move(found);
     require(kept.text() == "http://h/" && kept.host() == "h", "a URL that was moved");
 }
 

@@ -47,7 +47,7 @@ func shown(part string, isThere bool) string {
 }
 
 // joined gives the URL with its parts joined again, which has to be its text.
-func joined(url *urlcheck.Record) string {
+func joined(url urlcheck.URL) string {
 	part := func(mark, part string, isThere bool) string {
 		if isThere {
 			return mark + part
@@ -87,7 +87,7 @@ func line(checker urlcheck.Checker, text string) string {
 	} else {
 		urls, errs := checker.ResolveMany([]string{text})
 		require(many == nil && resolving == nil && errs[0] == nil && urls[0] == record.String(), "another URL")
-		require(joined(&record) == record.String(), "the parts of the URL aren't it")
+		require(joined(record) == record.String(), "the parts of the URL aren't it")
 		fields = append(fields, "0", shown(url.Scheme()), shown(url.Host()), shown(url.Port()), shown(url.Path(), true),
 			shown(url.Query()), shown(url.Fragment()), record.String())
 	}

@@ -1,5 +1,5 @@
 # C++17: urlcheck.hpp with g++ and clang++, without a warning, under sanitizers, without exceptions, by CMake and by
-# pkg-config. Sourced by tests/runs/languages.sh.
+# pkg-config; what callers see, and misuses that the compiler refuses. Sourced by tests/runs/languages.sh.
 warned=(-std=c++17 -pthread -Wall -Wextra -Wpedantic -Wconversion -Wsign-conversion -Wshadow -Werror)
 
 # build_cpp : the answers by the copy of the header
@@ -25,9 +25,50 @@ if here C++ g++; then
     fi
     quiet 'g++ on answers.cpp' build_cpp
     for edit in 's/found.place, found.byte_place, found.rule}/found.byte_place, found.place, found.rule}/' \
-        's/if (!span.present) return/if (span.length == 0) return/' 's/, base(against.text())/, base()/'; do
+        's/!span.present ||/span.length == 0 ||/' 's/, base_(against.text())/, base_()/'; do
         spoiled C++ build_cpp cpp urlcheck.hpp "$edit" "$room/answers_cpp"
     done
+
+    # What callers see of the header. Each spoiled copy of it is seen too.
+    calls_cpp() {
+        g++ "${warned[@]}" -g -fsanitize=address,undefined -fno-sanitize-recover=all -I "$room/cpp" -I "$include" calls.cpp \
+            "$library/lib/liburlcheck.a" -o "$room/calls_cpp" && "$room/calls_cpp"
+    }
+    quiet 'calls.cpp' calls_cpp
+    while IFS= read -r edit; do
+        cp "$top/bindings/cpp/urlcheck.hpp" "$room/cpp/urlcheck.hpp"
+        sed -i "$edit" "$room/cpp/urlcheck.hpp"
+        ! cmp -s "$top/bindings/cpp/urlcheck.hpp" "$room/cpp/urlcheck.hpp" || fail "C++: the edit $edit changes nothing"
+        ! calls_cpp >/dev/null 2>&1 || fail "C++: a spoiled copy passes calls.cpp: $edit"
+        spoils=$((spoils + 1))
+    done <<'EDITS'
+s/URLCHECK_WORDING_NONE/URLCHECK_WORDING_OPTIONS/
+s/? "standard" : of == profile::wide ? "wide"/? "wide" : of == profile::wide ? "standard"/
+s/{reason::no_memory, 0, 0, 0}/{reason::no_memory, 1, 0, 0}/
+s/"port-digit",  "port-range"/"port-range",  "port-digit"/
+s/ || span.start + span.length > text().size()//
+s/return begin() + size();/return begin() + size() - 1;/
+s/one.place == other.place/true/
+EDITS
+    cp "$top/bindings/cpp/urlcheck.hpp" "$room/cpp/urlcheck.hpp"
+
+    # misused CODE : this use of a text that ends with a call isn't compiled
+    misused() {
+        printf '%s\n' '#include <string>' '#include "urlcheck.hpp"' 'std::string made();' "void use() { $1; }" >"$room/misused.cpp"
+        ! g++ "${warned[@]}" -Wno-unused-variable -I "$room/cpp" -I "$include" -fsyntax-only "$room/misused.cpp" >"$room/said" 2>&1 ||
+            fail "C++: it is compiled: $1"
+        grep -qE 'deleted function|nodiscard' "$room/said" || fail "C++: $1: $(head -n 3 "$room/said")"
+    }
+    misused 'auto url = urlcheck::check(made())'
+    misused 'auto base = urlcheck::base::of(made())'
+    misused 'auto url = urlcheck::check(urlcheck::sentence(urlcheck::rule::percent))'
+    misused 'std::string_view kept = urlcheck::sentence(urlcheck::rule::percent)'
+    misused 'auto kept = urlcheck::sentence(urlcheck::rule::percent).view()'
+    misused 'urlcheck::check("http://h/")'
+    misused 'urlcheck::setting by(*urlcheck::base::of("http://h/"))'
+
+    guide cpp cpp guide_cpp program.cpp
+    as_told cpp guide_cpp
 
     # A project that finds the header and the library by CMake, and one by pkg-config.
     echo '#include <urlcheck.hpp>

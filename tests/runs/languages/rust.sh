@@ -1,12 +1,17 @@
-# Rust: the crate without a dependency, offline; its tests, those of its documentation, clippy, rustdoc, rustfmt; the
-# archive, and the shared library by pkg-config. Sourced by tests/runs/languages.sh.
+# Rust: the crate, offline, with and without its feature; its tests, the tests of its documentation, clippy, rustdoc, rustfmt; the
+# archive, and the shared library by pkg-config. Debian has the sources of what it depends on. Sourced by tests/runs/languages.sh.
 
 # build_rust : the answers by the copy of the crate
 build_rust() {
     (cd "$room/rust" && cargo build --offline --example answers)
 }
 
-if here Rust cargo; then
+# (Debian's sources take the place of the registry, for each folder below)
+registry=/usr/share/cargo/registry
+mkdir "$room/.cargo"
+printf '%s\n' '[source.crates-io]' 'replace-with = "debian"' '[source.debian]' "directory = \"$registry\"" >"$room/.cargo/config.toml"
+
+if here Rust cargo && with Rust librust-serde-json-dev compgen -G "$registry/serde_json-*"; then
     # (errors of programs that are meant to fail need no trace)
     export CARGO_TARGET_DIR=$room/target URLCHECK_LIB_DIR=$library/lib RUST_BACKTRACE=0
     copied rust
@@ -18,10 +23,11 @@ if here Rust cargo; then
     (
         cd "$room/rust"
         quiet 'the tests of the crate' cargo test --offline --tests
+        quiet 'the tests with serde' cargo test --offline --features serde --tests
         quiet 'the tests of its documentation' cargo test --offline --doc
         ! with 'Rust by rustfmt' rustfmt cargo fmt --version || quiet 'rustfmt' cargo fmt --check
         ! with 'Rust by clippy' clippy cargo clippy --version ||
-            quiet 'clippy' cargo clippy --offline --all-targets -- -D warnings
+            quiet 'clippy' cargo clippy --offline --all-targets --all-features -- -D warnings
         RUSTDOCFLAGS='-D warnings' quiet 'rustdoc' cargo doc --offline --no-deps
     )
     has_version rust/Cargo.toml 'version = "@"'
@@ -31,29 +37,19 @@ if here Rust cargo; then
     spoiled Rust build_rust rust src/profile.rs 's/        self as u32/        self as u32 \& 1/' "$answers_rust"
     spoiled Rust build_rust rust src/parts.rs 's/span.present.then(/(span.length > 0).then(/' "$answers_rust"
 
-    # The same sources by the manifest that has `serde`, of which Debian has sources. Above no registry was there.
-    registry=/usr/share/cargo/registry
-    if with 'Rust with serde' librust-serde-json-dev compgen -G "$registry/serde_json-*"; then
-        serde=(--offline --manifest-path "$room/rust/serde/Cargo.toml" --config 'source.crates-io.replace-with="debian"'
-            --config "source.debian.directory=\"$registry\"")
-        quiet 'the tests with serde' cargo test "${serde[@]}"
-        ! with 'serde by clippy' clippy cargo clippy --version ||
-            quiet 'clippy with serde' cargo clippy "${serde[@]}" --all-targets -- -D warnings
-        has_version rust/serde/Cargo.toml 'version = "@"'
-        serialized=$room/rust/src/serialized.rs
-        cp "$serialized" "$room/kept"
-        for edit in 's/"place": self.place()/"place": self.byte_place()/' \
-            's/"port": self.port()/"port": self.host()/'; do
-            sed "$edit" "$room/kept" >"$serialized"
-            ! cmp -s "$room/kept" "$serialized" || fail "Rust: the edit $edit changes nothing"
-            ! cargo test "${serde[@]}" >"$room/said" 2>&1 || fail "Rust: a spoiled copy serializes the same: $edit"
-            grep -q '^test result: FAILED' "$room/said" || fail "Rust: a copy isn't built: $edit: $(cat "$room/said")"
-            spoils=$((spoils + 1))
-        done
-        cp "$room/kept" "$serialized"
-    fi
+    serialized=$room/rust/src/serialized.rs
+    cp "$serialized" "$room/kept"
+    for edit in 's/"place": self.place()/"place": self.byte_place()/' 's/"port": self.port()/"port": self.host()/'; do
+        sed "$edit" "$room/kept" >"$serialized"
+        ! cmp -s "$room/kept" "$serialized" || fail "Rust: the edit $edit changes nothing"
+        ! (cd "$room/rust" && cargo test --offline --features serde --test json) >"$room/said" 2>&1 ||
+            fail "Rust: a spoiled copy serializes the same: $edit"
+        grep -q '^test result: FAILED' "$room/said" || fail "Rust: a copy isn't built: $edit: $(cat "$room/said")"
+        spoils=$((spoils + 1))
+    done
+    cp "$room/kept" "$serialized"
 
-    # Where no folder is named, pkg-config is asked; a folder without a library is refused.
+    # If no folder is named, pkg-config is asked; a folder without a library is refused.
     (
         cd "$room/rust"
         quiet 'cargo by pkg-config' env -u URLCHECK_LIB_DIR CARGO_TARGET_DIR="$room/shared" \

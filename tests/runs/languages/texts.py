@@ -1,5 +1,5 @@
-"""Writes the texts of files of vectors, a line each, and some with a NUL: texts.py VECTORS.. A text that is empty, or
-has an LF or a CR, isn't a line for each language and is left out."""
+"""Writes the texts of files of vectors, a line each, and some with a NUL, with bytes that aren't UTF-8, with CR LF, and one that the
+input ends: texts.py VECTORS.. A text that has an LF isn't a line, and `lint` passes over one that is empty: they are left out."""
 
 import json
 import sys
@@ -8,6 +8,6 @@ lines = []
 for name in sys.argv[1:]:
     with open(name, encoding="utf-8") as file:
         texts = [case["input"] for case in json.load(file)]
-    lines += [text for text in texts if text and "\n" not in text and "\r" not in text]
-lines += ["http://h/\0", "\0", "http://h/\0 ^"]
-sys.stdout.buffer.write("".join(line + "\n" for line in lines).encode())
+    lines += [text.encode() for text in texts if text not in ("", "\r") and "\n" not in text]
+lines += [b"http://h/\0", b"\0", b"http://h/\0 ^", b"http://h/\xff", b"\xc3", b"http://h/\r", b"http://h/ b\r", b"http://h/\r\r"]
+sys.stdout.buffer.write(b"\n".join([*lines, b"http://h/a b"]))

@@ -1,4 +1,4 @@
-"""Compares answers, as tests/runs/library/answers.c gives them, with what the vectors want, each by its own profile.
+"""Compares answers, as tests/runs/library/answers.c gives them, with what the vectors want, each under its own profile.
 
     vectors.py ANSWERS VECTORS..
 """

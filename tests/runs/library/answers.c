@@ -174,7 +174,7 @@ static int is_same_answer(urlcheck_answer one, urlcheck_answer other) {
            && is_same_span(one.parts.fragment, other.parts.fragment);
 }
 
-/* The answer to a pointer and the verdict alone are those of the check, and a base of another profile isn't one. */
+/* The answer to a pointer and the bare verdict are as the check gives them, and a base of another profile isn't one. */
 static void compare_calls(const text *given, const text *base, uint32_t profile, urlcheck_answer answer) {
     urlcheck_base held;
     const urlcheck_base *prepared = hold(base, profile, &held);

@@ -27,16 +27,16 @@ def line(text, base, profile):
         return "3 " + at(base, refused)
     assert urlcheck.check(text, held, profile) == found
     assert urlcheck.is_valid(text, held, profile) == urlcheck.is_valid(text, base, profile) == bool(found)
-    assert urlcheck.faults(text, held, profile) == urlcheck.faults(text, base, profile)
+    assert urlcheck.violations(text, held, profile) == urlcheck.violations(text, base, profile)
     assert urlcheck.resolve(text, held, profile) == urlcheck.resolve(text, base, profile)
-    faults = urlcheck.faults(text, base, profile)
+    wrong = urlcheck.violations(text, base, profile)
     resolved = urlcheck.resolve(text, base, profile)
     if not found:
         assert resolved == found
-        return "\t".join(["1 " + at(text, found)] + [at(text, fault) for fault in faults])
+        return "\t".join(["1 " + at(text, found)] + [at(text, fault) for fault in wrong])
     parts = (getattr(found, part) for part in PARTS)
     shown = ["-" if part is None else "+" + part for part in parts]
-    return "\t".join(["0"] + shown + [resolved] + [at(text, fault) for fault in faults])
+    return "\t".join(["0"] + shown + [resolved] + [at(text, fault) for fault in wrong])
 
 
 def mended(text, base, profile):

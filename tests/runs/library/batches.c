@@ -113,7 +113,7 @@ static urlcheck_batch resolve_all(const list *all, uint32_t profile, uint8_t *ve
                                  ends, out, room);
 }
 
-/* Of a row, the columns and the text have what urlcheck_resolve says of that text alone. */
+/* The columns and the text of a row have what urlcheck_resolve says of that text by itself. */
 static void compare_resolved_row(const list *all, size_t row, uint32_t profile, const uint8_t *written, size_t length,
                                  urlcheck_finding found) {
     static uint8_t room[1 << 18];

@@ -1,7 +1,7 @@
 /*
  * The calls of reports, columns, explanations, records and held bases on texts that are written out: what they give, and what
  * they answer to a number of nothing, a place after the end, a column out of range, bytes that aren't UTF-8 and null
- * pointers. Expected texts are those of docs/COMMANDS.md and docs/rules/, places and columns are counted by hand.
+ * pointers. Expected texts are from docs/COMMANDS.md and docs/rules/, places and columns are counted by hand.
  */
 #include "urlcheck.h"
 
@@ -42,11 +42,32 @@ static void refuses(urlcheck_written answer, uint32_t outcome, const char *what)
 }
 
 static urlcheck_written message_in(uint32_t wording, const char *text, uint32_t profile, uint32_t rule, size_t place) {
-    return urlcheck_message(bytes(text), strlen(text), profile, wording, rule, place, out, sizeof out);
+    return urlcheck_message(bytes(text), strlen(text), profile, NULL, wording, rule, place, out, sizeof out);
 }
 
 static urlcheck_written message(const char *text, uint32_t profile, uint32_t rule, size_t place) {
     return message_in(URLCHECK_WORDING_OPTIONS, text, profile, rule, place);
+}
+
+/* A sentence of the standard profile against a base that was prepared by this one. */
+static urlcheck_written message_against(const char *base, uint32_t by, const char *text, uint32_t rule, size_t place) {
+    urlcheck_base held = urlcheck_prepare(bytes(base), strlen(base), by);
+    return urlcheck_message(bytes(text), strlen(text), URLCHECK_STANDARD, &held, URLCHECK_WORDING_OPTIONS, rule, place, out,
+                            sizeof out);
+}
+
+/* A wider profile is named if it accepts the text against the base. */
+static void messages_against(void) {
+    static const char LOW_LINE[] = "U+005F LOW LINE is not allowed in a domain";
+    static const char ALLOWED[] = "U+005F LOW LINE is not allowed in a domain; --profile wide allows it";
+    gives(message("//x_y/", 0, URLCHECK_HOST_DOMAIN, 3), LOW_LINE);
+    gives(message_against("http://h/", 0, "//x_y/", URLCHECK_HOST_DOMAIN, 3), ALLOWED);
+    gives(message_against("http://h/", 0, "//x_y/ ", URLCHECK_HOST_DOMAIN, 3), LOW_LINE);
+    urlcheck_written refused = message_against("h i", 0, "//x_y/", URLCHECK_HOST_DOMAIN, 3);
+    expect(refused.found.rule == URLCHECK_NO_SCHEME && refused.found.place == 0, "why a message's base is refused");
+    refuses(refused, URLCHECK_BASE_REFUSED, "a message against a base that is refused");
+    refuses(message_against("http://h/", URLCHECK_WIDE, "//x_y/", URLCHECK_HOST_DOMAIN, 3), URLCHECK_NO_BASE,
+            "a message against a base of another profile");
 }
 
 static void messages(void) {
@@ -64,8 +85,8 @@ static void messages(void) {
     expect(foreign.found.place == 1 && foreign.found.byte_place == 2, "where a message's text is no UTF-8");
     refuses(foreign, URLCHECK_NO_UTF8, "a message on what is no UTF-8");
     refuses(message_in(4, "a", 0, URLCHECK_PERCENT, 0), URLCHECK_NO_WORDING, "a message in no wording");
-    refuses(urlcheck_message(NULL, 1, 0, 0, 1, 0, out, sizeof out), URLCHECK_NULL, "a message on null");
-    refuses(urlcheck_message(bytes("a"), 1, 0, 0, 1, 0, NULL, 9), URLCHECK_NULL, "a message into null");
+    refuses(urlcheck_message(NULL, 1, 0, NULL, 0, 1, 0, out, sizeof out), URLCHECK_NULL, "a message on null");
+    refuses(urlcheck_message(bytes("a"), 1, 0, NULL, 0, 1, 0, NULL, 9), URLCHECK_NULL, "a message into null");
 }
 
 static const char TEXT[] = "http://h/a b", MENDED[] = "http://h/a%20b";
@@ -489,6 +510,7 @@ static void ascii(void) {
 int main(void) {
     memset(out, 7, sizeof out);
     messages();
+    messages_against();
     diagnostics();
     bad_diagnostics();
     rounds();

@@ -19,7 +19,7 @@ import sys
 ABSENT = 0xFFFFFFFF
 # The profiles, by which each case is checked in this order.
 PROFILES = ("standard", "wide", "parser")
-# Texts beside the vectors: each kind of host, references, places after code points of each length, and empty texts.
+# Texts besides the vectors: each kind of host, references, places after code points of each length, and empty texts.
 MORE = [
     ("", None),
     ("", "http://h/a?q#f"),
@@ -52,7 +52,7 @@ MORE = [
     ("#", "http://h/\u65e5"),
     ("//h", "http://b/"),
 ]
-# The parts of a valid text by its delimiters alone (RFC 3986, appendix B, with the host and the port apart).
+# The parts of a valid text only by its delimiters (RFC 3986, appendix B, with the host and the port apart).
 DELIMITED = re.compile(
     rb"(?:(?P<scheme>[A-Za-z][A-Za-z0-9+.-]*):)?"
     rb"(?://(?P<host>\[[^\]]*\]|[^:/?#]*)(?::(?P<port>[^/?#]*))?)?"
@@ -109,7 +109,7 @@ def said(program, case, profile):
     """What the program says of a case, in the form of the beginning and of the record of a line of answers."""
     text, base, _ = case
     words = [program, "check", "--profile", profile] + ([] if base is None else ["--base=" + base]) + ["--", text]
-    run = subprocess.run(words, capture_output=True, timeout=60)
+    run = subprocess.run(words, capture_output=True, timeout=600)
     lines = run.stdout.decode().split("\n")[:-1]
     if run.returncode == 0:
         return ("0", record_text(lines[1:]))
@@ -156,7 +156,7 @@ def mended(program, case, profile):
     """What the program says of mending a case, in a line."""
     text, base, _ = case
     words = [program, "mend", "--profile", profile] + ([] if base is None else ["--base=" + base]) + ["--", text]
-    run = subprocess.run(words, capture_output=True, timeout=60)
+    run = subprocess.run(words, capture_output=True, timeout=600)
     if run.returncode < 2:
         return run.stdout.decode().rstrip("\n").replace("\n", "\t")
     return run.stderr.decode().splitlines()[-1]
@@ -176,7 +176,7 @@ def compare_mended(program, answers, paths):
 
 
 def places_of(text):
-    """Where the parts of a valid text are in its bytes: each with its name, its start and its length."""
+    """Returns the parts of a valid text in its bytes: each with its name, its start and its length."""
     found = DELIMITED.fullmatch(text.encode())
     spans = {name: found.span(name) for name in ("scheme", "host", "port", "path", "query", "fragment")}
     return "".join("{} {} {} ".format(name, at, end - at) for name, (at, end) in spans.items() if at >= 0)

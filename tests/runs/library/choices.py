@@ -40,6 +40,10 @@ class Choices(Texts):
                 self.assertEqual([at.split(":")[0] for at, _ in found], [at.split(":")[0] for at, _ in places])
         status, _, said = self.run_on("--select", "code-pont", "page.html")
         self.assertEqual((status, said), (2, "urlcheck-documents: no rule is named 'code-pont'; the nearest is code-point\n"))
+        status, _, said = self.run_on("--ignore", "code-pont", "page.html")
+        wanted = "urlcheck-documents: code-pont: can't be read: there is no such file; the nearest rule is code-point\n"
+        self.assertEqual((status, said), (2, wanted))
+        self.assertEqual(self.run_on("--select", "Percent", "page.html")[1].count("\n"), 1)
 
     def test_rules_of_a_project(self):
         self.write(".urlcheck.toml", 'select = ["percent", "host-domain"]\nignore-rules = ["percent"]\n')
@@ -68,7 +72,7 @@ class Choices(Texts):
         status, out, said = self.run_on("--baseline", "known", "page.html")
         self.assertEqual((status, out), (0, ""))
         self.assertIn("urlcheck-documents: 1 fault of the baseline are gone\n".replace("are", "is"), said)
-        for name, why in (("page.html", "is no baseline: --write-baseline writes one"),
+        for name, why in (("page.html", "isn't a baseline: --write-baseline writes one"),
                           ("none", "can't be read: there is no such file")):
             status, _, said = self.run_on("--baseline", name, "page.html")
             self.assertEqual((status, said), (2, "urlcheck-documents: {}: {}\n".format(name, why)))
@@ -98,6 +102,8 @@ class Choices(Texts):
             (["--list", "--baseline", "x", "page.html"], NO_USE.format("baseline")),
             (["--list", "--exit-zero", "page.html"], NO_USE.format("exit-zero")),
             (["--list", "--check", "page.html"], NO_USE.format("check")),
+            (["--statistics", "--format", "json", "page.html"], "--statistics prints counts, so that --format has no use"),
+            (["--cache", "page.html"], "there is no option --cache; each run reads all, and needs no cache"),
         ):
             status, out, err = self.run_on(*words)
             self.assertEqual((status, out, err.splitlines()[-1]), (2, "", "urlcheck-documents: " + said))

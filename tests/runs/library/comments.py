@@ -88,7 +88,7 @@ class Comments(Texts):
         self.assertEqual(self.run_on("--quiet", "a.html"), (0, "", ""))
 
     def test_each_kind(self):
-        """Each format with comments has them, before a link and beside one; a second link is reported."""
+        """Each format with comments has them, before a link and next to one; a second link is reported."""
         notebook = {"cells": [{"cell_type": "markdown", "source": ["<!-- urlcheck: ignore -->\n", "[a](x^)\n", "\n", "[b](y^)"]}]}
         for name, text, needs in (
             ("a.xml", "<urlset>\n<!-- urlcheck: ignore -->\n<loc>http://h/x^</loc>\n<loc>http://h/y^</loc></urlset>", ""),
@@ -96,6 +96,8 @@ class Comments(Texts):
             ("a.md", "<!-- urlcheck: ignore -->\n[a](x^)\n\n[b](y^)\n", "markdown_it"),
             ("b.md", "- [a](x^) <!-- urlcheck: ignore -->\n- [b](y^)\n", "markdown_it"),
             ("c.md", "> <!-- urlcheck: ignore -->\n>\n> [a](x^)\n\n[b](y^)\n", "markdown_it"),
+            ("d.md", "[//]: # (urlcheck: ignore)\n[a](x^)\n\n[b](y^)\n", "markdown_it"),
+            ("e.md", "> [//]: # \"urlcheck: ignore\"\n>\n> [a](x^)\n\n[b](y^)\n\n[//]: # (other)\n", "markdown_it"),
             ("a.rst", ".. urlcheck: ignore\n\n`a <x^>`_\n\n`b <y^>`_\n", "docutils"),
             ("b.rst", "T\n=\n\n..\n   urlcheck: ignore\n\n`a <x^>`_\n`b <y^>`_\n", "docutils"),
             ("a.css", "/* urlcheck: ignore */\na { b: url(x^) }\nc { d: url(y^) }", "tinycss2"),
@@ -134,7 +136,7 @@ class Comments(Texts):
             self.assertEqual(file.read(), text[: -len(WRONG)] + WRONG.replace(" y", "%20y"))
 
     def test_some_rules(self):
-        """Where only some rules are reported, nothing is said of comments that aren't needed."""
+        """If only some rules are reported, no comment is reported as not needed."""
         self.write("a.html", "<!-- urlcheck: ignore[percent] -->\n" + WRONG)
         self.assertEqual(self.seen("a.html", "--select", "code-point"), (["2:11 code-point"], [], 0))
         self.write("a.html", "<!-- urlcheck: ignroe -->\n" + WRONG)

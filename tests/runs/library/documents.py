@@ -1,4 +1,4 @@
-"""Tests of urlcheck.documents: where links are, and what is said of them. The package is on PYTHONPATH."""
+"""Tests of urlcheck.documents: where links are, and the reports on them. The package is on PYTHONPATH."""
 
 import importlib.util
 import os
@@ -182,7 +182,7 @@ class Documents(Texts):
     def test_markdown(self):
         self.finds("a.md", NOTES, NOTES_LINKS)
         self.checks("a.md", [("1:47", "percent"), ("3:24", "code-point"), ("3:48", "host-ipv6"), ("6:26", "port-digit"),
-                             ("7:13", "code-point"), ("14:17", "code-point"), ("15:19", "code-point")])
+                             ("7:27", "code-point"), ("14:17", "code-point"), ("15:19", "code-point")])
 
     @unittest.skipUnless(importlib.util.find_spec("markdown_it"), "markdown-it-py isn't installed")
     def test_empty_links_of_markdown(self):
@@ -191,14 +191,14 @@ class Documents(Texts):
 
     @unittest.skipUnless(importlib.util.find_spec("markdown_it"), "markdown-it-py isn't installed")
     def test_what_stands_twice_in_markdown(self):
-        """A link is that of its own place, even if the same is before it as text or in a destination."""
+        """A link has its own place, even if the same is before it as text or in a destination."""
         self.finds("a.md", "`<http://h/a>` <http://h/a>\n\n`<a href='x'>` <a href='x'>\n\n\\<http://h/b> <http://h/b>\n\n"
                    "[x](<http://h/c>) <http://h/c>\n\n![<q cite=y>](z) <q cite=y>\n",
                    "1:17:http://h/a\n3:25:x\n5:16:http://h/b\n7:6:http://h/c\n7:20:http://h/c\n9:15:z\n9:26:y\n")
 
     @unittest.skipUnless(importlib.util.find_spec("markdown_it"), "markdown-it-py isn't installed")
     def test_tags_over_lines_of_markdown(self):
-        """What nests a block isn't a part of a tag that reaches over its lines, and places are those of the source."""
+        """What nests a block isn't a part of a tag that reaches over its lines, and places are in the source."""
         text = ("- a <a\n  href=\"m n\">b</a>\n\n> c <a\n> href='o\n> p'>\n\n> <div>\n> <img\n>  src=\"s t\">\n> </div>\n\n"
                 "d <a\nhref='?u&amp;v w'>\n\n> - <!-- urlcheck: ignore -->\n>   <a href='^'>\n\n- e <!-- urlcheck: ignore -->\n"
                 "  [f](^)\n")
@@ -210,7 +210,7 @@ class Documents(Texts):
 
     @unittest.skipUnless(importlib.util.find_spec("markdown_it"), "markdown-it-py isn't installed")
     def test_code_points_that_markdown_replaces(self):
-        """A carriage return alone ends a line of Markdown (CommonMark, section 2.1), and U+0000 is read as U+FFFD."""
+        """A single carriage return ends a line of Markdown (CommonMark, section 2.1), and U+0000 is read as U+FFFD."""
         self.finds("a.md", "a\r[b](c)\r\r# [d](e)\n\n[f](g)\n", "1:7:c\n1:17:e\n3:5:g\n")
         self.finds("b.md", "[a](b\0c) [d](e)\n", "1:5:b\ufffdc\n1:14:e\n")
 
@@ -231,7 +231,7 @@ class Documents(Texts):
             "a.html:1:66: error: U+0078 LATIN SMALL LETTER X is not allowed in a port [port-digit]",
             "a.html:2:17: error: U+005E CIRCUMFLEX ACCENT is not allowed in a host [host-code-point]",
             "a.html:2:31: error: U+0020 SPACE is not allowed in a URL [code-point]",
-            "a.html:2:45: error: U+0025 PERCENT SIGN has to be followed by two hex digits [percent]",
+            "a.html:2:45: error: U+0025 PERCENT SIGN has to be followed by two hex digits; this escape is cut off [percent]",
             "a.html:2:59: error: U+007F DELETE is not allowed in a URL [code-point]",
             "a.html:2:72: error: U+009F is not allowed in a URL [code-point]",
             "a.html:2:85: error: U+FDD0 <noncharacter> is not allowed in a URL [code-point]",
@@ -296,7 +296,7 @@ class Documents(Texts):
             self.assertIn("urlcheck-documents: the base is refused at place " + wanted, said)
 
     def test_bases_whose_text_is_refused(self):
-        """A base is valid though the text of its URL isn't, where a `..` or a `.` in its path goes."""
+        """A base may be valid though the text of its URL isn't, because a `..` or a `.` in its path is removed."""
         space, drive, host = ("2:11", "code-point"), ("2:24", "drive-after-host"), ("2:42", "host-missing")
         for base, places in (
             ("http://h/a/..//b?c//d", [space, host]),
@@ -347,7 +347,7 @@ class Documents(Texts):
         self.checks("b.html", [("1:41", "host-number")], "--profile", "parser")
 
     def test_broken(self):
-        """Where a document can't be read from a place on, what is before it is written or checked."""
+        """If a document can't be read from a place on, the links before it are written or checked."""
         self.write("b.xml", "<urlset><loc>http://h/ a</loc>\r<loc>http://h/ b</urlset>")
         place = "urlcheck-documents: b.xml:1:50: can't be read from here on: mismatched tag\n"
         status, out, said = self.run_on("--list", "b.xml")

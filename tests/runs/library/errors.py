@@ -6,6 +6,7 @@ import gc
 import json
 import multiprocessing
 import pickle
+import subprocess
 import sys
 import unittest
 import weakref
@@ -37,7 +38,7 @@ class Errors(unittest.TestCase):
         wanted = {"scheme": "http", "host": "h", "port": "8", "path": "/a", "query": "b", "fragment": None}
         self.assertEqual(json.loads(json.dumps(answer)), wanted)
         self.assertEqual(dataclasses.asdict(urlcheck.check("http://h/ ")), {"rule": "code-point", "place": 9})
-        self.assertEqual([dataclasses.asdict(it) for it in urlcheck.faults("http://h/^")], [{"rule": "code-point", "place": 9}])
+        self.assertEqual([dataclasses.asdict(it) for it in urlcheck.violations("http://h/^")], [{"rule": "code-point", "place": 9}])
         mended = json.loads(json.dumps(dataclasses.asdict(urlcheck.mend("http://h/^"))))
         self.assertEqual(mended, {"text": "http://h/%5E", "kind": "same", "is_offered": True})
 
@@ -50,10 +51,11 @@ class Errors(unittest.TestCase):
             (("x", None, 7), ValueError, "no profile has the number 7"),
             (("x", None, -1), ValueError, "no profile has the number -1"),
             (("x", None, 1 << 40), ValueError, "no profile has the number"),
-            (("x", None, "wide"), TypeError, "a profile is a urlcheck.Profile, not str"),
+            (("x", None, "Wide"), ValueError, "no profile has the name Wide: there are standard"),
+            (("x", None, 1.0), TypeError, "a profile is a urlcheck.Profile or its name, not float"),
             (("x\ud800",), UnicodeEncodeError, "surrogates not allowed"),
         ):
-            for function in (urlcheck.check, urlcheck.faults, urlcheck.resolve, urlcheck.mend):
+            for function in (urlcheck.check, urlcheck.violations, urlcheck.resolve, urlcheck.mend):
                 with self.subTest(words), self.assertRaisesRegex(error, said):
                     function(*words)
 
@@ -89,9 +91,43 @@ class Errors(unittest.TestCase):
             urlcheck.Base("http://h_/a")
         self.assertEqual((refused.exception.rule, refused.exception.place), ("host-domain", 7))
         narrow = urlcheck.Base("http://h/")
-        for function in (urlcheck.check, urlcheck.faults, urlcheck.resolve, urlcheck.is_valid, urlcheck.mend):
+        for function in (urlcheck.check, urlcheck.violations, urlcheck.resolve, urlcheck.is_valid, urlcheck.mend):
             with self.assertRaisesRegex(ValueError, "another profile: STANDARD"):
                 function("x", narrow, urlcheck.Profile.WIDE)
+            with self.assertRaisesRegex(ValueError, "another profile: WIDE"):
+                function("//a_b/", base, urlcheck.Profile.STANDARD)
+        for name in ("text", "profile", "other"):
+            with self.assertRaisesRegex(AttributeError, "a Base doesn't change"):
+                setattr(narrow, name, "http://two.example/")
+        with self.assertRaises(AttributeError):
+            del narrow.text
+        self.assertEqual({narrow: 1}[urlcheck.Base("http://h/")], 1)
+
+    def test_profiles_by_name(self):
+        for profile in urlcheck.Profile:
+            name = profile.name.lower()
+            for text in ("http://a_b/", "urn:a b"):
+                wanted = urlcheck.check(text, None, profile)
+                self.assertEqual(urlcheck.check(text, profile=name), wanted)
+                self.assertEqual(next(urlcheck.check_each([text], None, name)), wanted)
+                self.assertEqual(urlcheck.check_many([text], None, name).valid, [bool(wanted)])
+            self.assertEqual(urlcheck.Base("urn:a", name).profile, profile)
+        refused = urlcheck.check("http://a_b/")
+        self.assertIn("; profile='wide' allows it", urlcheck.message("http://a_b/", refused, "standard"))
+        self.assertNotIn("profile", urlcheck.message("http://a_b/ ", urlcheck.Violation("code-point", 11), "wide"))
+
+    def test_the_package_is_loaded_again(self):
+        """As a notebook does, or a test that takes the package away and imports it again."""
+        script = (
+            "import importlib, sys, urlcheck\n"
+            "importlib.reload(urlcheck)\n"
+            "assert urlcheck.check('http://h/a').path == '/a' and type(urlcheck.check('x')) is urlcheck.Refused\n"
+            "for name in [it for it in sys.modules if it.partition('.')[0] == 'urlcheck']: del sys.modules[name]\n"
+            "import urlcheck\n"
+            "assert urlcheck.check('x', urlcheck.Base('http://h/')).path == 'x'\n"
+        )
+        ran = subprocess.run([sys.executable, "-c", script], stderr=subprocess.PIPE, universal_newlines=True, check=False)
+        self.assertEqual((ran.returncode, ran.stderr), (0, ""))
 
     def test_each_profile_takes_more(self):
         texts = {"http://h/": 3, "http://a_b/": 2, "http://h//a": 2, "http://a%2Db/": 1, "http://1.2/": 1, "urn:a b": 1}
@@ -121,6 +157,12 @@ class Errors(unittest.TestCase):
             said = "".join(urlcheck.report([wrong], wording=wording))
             self.assertEqual(said, "f:1:8: error: {}{} [host-domain]\n".format(point, more))
         self.assertEqual(urlcheck.message("http://h_/", refused), point + "; profile='wide' allows it")
+        for base in "http://h/", urlcheck.Base("http://h/"):
+            against = urlcheck.check("//h_/", base)
+            self.assertEqual(urlcheck.message("//h_/", against), point)
+            self.assertEqual(urlcheck.message("//h_/", against, base=base), point + "; profile='wide' allows it")
+        with self.assertRaises(urlcheck.BaseRefused):
+            urlcheck.message("//h_/", refused, base="h i")
         for call in (lambda: urlcheck.message("http://h_/", refused, wording="x"), lambda: urlcheck.report([], wording="x")):
             with self.assertRaisesRegex(ValueError, "no wording is named 'x': there are options, arguments, sql, none"):
                 call()
@@ -128,15 +170,15 @@ class Errors(unittest.TestCase):
             urlcheck.Base("http://h/%")
         said = "U+0025 PERCENT SIGN has to be followed by two hex digits"
         self.assertEqual(urlcheck.message("http://h/%", base.exception), said)
-        self.assertEqual(urlcheck.message("x^", urlcheck.faults("x^", "a:/")[0], urlcheck.Profile.PARSER)[:6], "U+005E")
+        self.assertEqual(urlcheck.message("x^", urlcheck.violations("x^", "a:/")[0], urlcheck.Profile.PARSER)[:6], "U+005E")
         for words, error, why in (
             ((b"x", refused), TypeError, "a text is a str, not bytes"),
             (("http:", refused), ValueError, "the place is after the end of the text"),
-            (("x", urlcheck.Fault("percent", -1)), ValueError, "the place is after the end of the text"),
-            (("x", urlcheck.Fault("no-utf8", 0)), KeyError, "no-utf8"),
-            (("x", urlcheck.Fault("percent", 0), 3), ValueError, "no profile has the number 3"),
-            (("x", urlcheck.Fault("percent", 0), "wide"), TypeError, "a profile is a urlcheck.Profile, not str"),
-            (("x\ud800", urlcheck.Fault("percent", 0)), UnicodeEncodeError, "surrogates not allowed"),
+            (("x", urlcheck.Violation("percent", -1)), ValueError, "the place is after the end of the text"),
+            (("x", urlcheck.Violation("no-utf8", 0)), KeyError, "no-utf8"),
+            (("x", urlcheck.Violation("percent", 0), 3), ValueError, "no profile has the number 3"),
+            (("x", urlcheck.Violation("percent", 0), ""), ValueError, "no profile has the name"),
+            (("x\ud800", urlcheck.Violation("percent", 0)), UnicodeEncodeError, "surrogates not allowed"),
         ):
             with self.subTest(words), self.assertRaisesRegex(error, why):
                 urlcheck.message(*words)
@@ -161,8 +203,10 @@ class Errors(unittest.TestCase):
         self.assertEqual(urlcheck.UNITS, ("code-points", "bytes", "utf16", "screen"))
         said = "a:1:2: error: U+0020 SPACE is not allowed in a URL [code-point]\n"
         self.assertEqual(list(urlcheck.report([wrong])), ["", said, ""])
-        # Equal ones of a file are told apart, and so are those of two files.
-        issues = json.loads("".join(urlcheck.report([wrong, wrong._replace(line=2), wrong._replace(file="b")], "gitlab")))
+        # Those of two files are told apart, and equal ones of a file if their caller counts them.
+        several = [wrong, wrong._replace(line=2), wrong._replace(line=3, repeat=1), wrong._replace(file="b")]
+        issues = json.loads("".join(urlcheck.report(several, "gitlab")))
+        self.assertEqual(issues[0]["fingerprint"], issues[1]["fingerprint"])
         self.assertEqual(len({it["fingerprint"] for it in issues}), 3)
         moved = json.loads("".join(urlcheck.report([wrong._replace(line=9)], "gitlab")))
         self.assertEqual(moved[0]["fingerprint"], issues[0]["fingerprint"])
@@ -187,7 +231,7 @@ class Errors(unittest.TestCase):
             self.assertEqual((it.rule, it.sentence), (rule, urlcheck.sentence(rule)))
             self.assertEqual(urlcheck.check(it.example, it.base), urlcheck.Refused(rule, it.place))
             self.assertTrue(urlcheck.check(it.mended, it.base))
-            self.assertTrue(it.asks.endswith(".") and it.section and it.url.startswith("https://url.spec.whatwg.org/#"))
+            self.assertTrue(it.requires.endswith(".") and it.section and it.url.startswith("https://url.spec.whatwg.org/#"))
         with self.assertRaises(KeyError):
             urlcheck.explain("empty")
 
@@ -207,7 +251,7 @@ class Errors(unittest.TestCase):
         self.assertEqual(urlcheck.__version__, urlcheck.version())
 
     def test_numbers_that_are_none(self):
-        """Of a place, a line, a column or a region, however large or small."""
+        """A place, a line, a column or a region, however large or small."""
         said = {
             "place": "the place is after the end of the text",
             "number": "a line or a column isn't from 1 to 4294967295",
@@ -242,7 +286,7 @@ class Errors(unittest.TestCase):
     def test_answers_are_in_no_cycle(self):
         """So the collector doesn't look at them, and they go as soon as nothing holds them."""
         answers = [urlcheck.check("http://h/a"), urlcheck.check("x"), urlcheck.mend("http://h/a b")]
-        answers += urlcheck.faults("x")
+        answers += urlcheck.violations("x")
         for answer in answers:
             self.assertFalse(gc.is_tracked(answer))
             self.assertEqual(copy.deepcopy(answer), answer)

@@ -1,5 +1,6 @@
 """Tests of what urlcheck.documents writes in place of links: --fix, --diff and --unsafe-fixes. The package is on PYTHONPATH."""
 
+import importlib.util
 import os
 import resource
 import shutil
@@ -21,7 +22,7 @@ PAGE = (
 FIXED = (
     "<!doctype html>\r\n<a href='http://h/a%20b'>1</a> <a href=http://h/x>2</a>\r\n"
     '<a href="http://h/{{ id }}">template</a> <a href="http://192.168.010.1/a b">octal</a>\n'
-    '<a href="https://http://h/x">two</a> <a href="http://h/&amp;a b">reference</a>\n'
+    '<a href="https://http://h/x">two</a> <a href="http://h/&amp;a%20b">reference</a>\n'
     '<!-- urlcheck: ignore -->\n<a href="http://h/meant so">left</a>\n\u00e9 <img src="p%20q.png" srcset="r%5E.png 1x, s.png 2x">'
 )
 
@@ -39,6 +40,46 @@ KINDS = {
     ),
 }
 
+# What is written in place of a link that has escapes of its document, by kinds: before, and as readers see the mended text.
+ESCAPED = (
+    ("a.html", '<a href="?a=1&amp;b=c d">', '<a href="?a=1&amp;b=c%20d">'),
+    ("a.html", "<a href='?a=1&b=c d'>", "<a href='?a=1&b=c%20d'>"),
+    ("a.html", '<a href="?a&am\tp;b">', '<a href="?a&amp;amp;b">'),
+    ("a.html", "<a href='&eacute;&apos; b'>", "<a href='&#233;&#39;%20b'>"),
+    ("a.html", "<a href='\u00e9\"&#x20;b'>", "<a href='\u00e9%22%20b'>"),
+    ("a.html", '<img srcset="a b&amp;.png 1x, c">', '<img srcset="a%20b&amp;.png 1x, c">'),
+    ("a.html", '<p style="a: url(&quot;x y&quot;)">', '<p style="a: url(&quot;x%20y&quot;)">'),
+    ("a.rss", "<rss><channel><link>http://h/?a&amp;b c</link></channel></rss>",
+     "<rss><channel><link>http://h/?a&amp;b%20c</link></channel></rss>"),
+    ("a.rss", "<rss><channel><link><![CDATA[http://h/?a&b c]]></link></channel></rss>",
+     "<rss><channel><link><![CDATA[http://h/?a&b%20c]]></link></channel></rss>"),
+    ("a.rss", "<rss><channel><link>http://h/?a&#38;b&#32;c&#xe9;</link></channel></rss>",
+     "<rss><channel><link>http://h/?a&amp;b%20c&#233;</link></channel></rss>"),
+    ("a.rss", "<rss><channel><description>&lt;a href='?a&amp;amp;b c'></description></channel></rss>",
+     "<rss><channel><description>&lt;a href='?a&amp;amp;b%20c'></description></channel></rss>"),
+    ("a.svg", "<svg xmlns='http://www.w3.org/2000/svg'><a href='?a&amp;b\nc'/></svg>",
+     "<svg xmlns='http://www.w3.org/2000/svg'><a href='?a&amp;b%20c'/></svg>"),
+    ("a.jsonfeed", '{"items": [], "icon": "\\u00e9\\/\\"b c"}', '{"items": [], "icon": "\\u00e9/%22b%20c"}'),
+    ("a.jsonfeed", '{"items": [{"content_html": "<a href=\\"?a&amp;b c\\">"}]}',
+     '{"items": [{"content_html": "<a href=\\"?a&amp;b%20c\\">"}]}'),
+    ("a.css", "a { b: url('c\\'d e') }", "a { b: url('c\\'d%20e') }"),
+    ("a.css", "a { b: url(c\\ d\\)) }", "a { b: url(c%20d\\)) }"),
+    ("a.md", "[a](<b&amp;c d>) [e](f\\)g^)\n", "[a](<b&amp;c%20d>) [e](f\\)g%5E)\n"),
+    ("a.ipynb", '{"cells": [{"cell_type": "markdown", "source": "[a](<b&amp;c \\u00e9>)"}]}',
+     '{"cells": [{"cell_type": "markdown", "source": "[a](<b&amp;c%20\\u00e9>)"}]}'),
+    ("a.md", '---\na: "http://h/caf\\u00e9 \\"b"\nb: [\'http://h/it\'\'s ^\']\n---\n',
+     '---\na: "http://h/caf\\u00e9%20%22b"\nb: [\'http://h/it\'\'s%20%5E\']\n---\n'),
+    ("a.rst", "`a <http://h/long/\npa^th>`_\n", "`a <http://h/long/pa%5Eth>`_\n"),
+)
+
+# What isn't surely a link, or not surely the same one: it is written only with --unsafe-fixes.
+UNCERTAIN = (
+    ("a.md", "[sic](my own note)\n", "[sic](my%20own%20note)\n"),
+    ("a.md", "![b](my pic.png \"T\")\n", "![b](my%20pic.png \"T\")\n"),
+    ("a.css", "a { b: url(my pic.png) }", "a { b: url(my%20pic.png) }"),
+    ("a.html", '<a href="http:/h/x">', '<a href="http://h/x">'),
+)
+
 
 class Fixing(Texts):
     def read(self, name):
@@ -51,8 +92,8 @@ class Fixing(Texts):
             status, out, said = self.run_on("--fix", "page.html")
             self.assertEqual(self.read("page.html"), mark + FIXED.encode())
             places = [line.split(": ")[0] for line in out.splitlines()]
-            self.assertEqual((status, places), (1, ["page.html:3:19", "page.html:3:58", "page.html:4:24", "page.html:4:62"]))
-            self.assertTrue(said.endswith(": 1 document, 10 links, 4 refused, 1 ignored, 4 fixed\n"), said)
+            self.assertEqual((status, places), (1, ["page.html:3:19", "page.html:3:58", "page.html:4:24"]))
+            self.assertTrue(said.endswith(": 1 document, 10 links, 3 refused, 1 ignored, 5 fixed\n"), said)
         # a second time there is nothing left to write
         before = os.stat(os.path.join(self.room, "page.html"))
         status, _, said = self.run_on("--fix", "page.html")
@@ -73,23 +114,25 @@ class Fixing(Texts):
         """A difference counts what is refused now; what only unsafe fixes would write is counted, unless that is quiet."""
         text = '<a href="http://h/a b">x</a> <a href=https:example.com/a>y</a> <a href="{{ a b }}">z</a>\n'
         more = "urlcheck-documents: {} could be fixed with --unsafe-fixes, perhaps to another URL\n"
+        left = "urlcheck-documents: {} fixed: {} a template\n"
         counts = "urlcheck-documents: {}, {} refused, 0 ignored, {}\n"
         self.write("a.html", text)
         self.write("b.html", text)
         self.write("c.xml", '<svg xmlns="http://www.w3.org/2000/svg"><a href="https:example.com/a"/>&broken')
         both, one = "2 documents, 6 links", "1 document, 3 links"
         said = self.run_on("--diff", "a.html", "b.html")[2]
-        self.assertEqual(said, more.format("2 more links") + counts.format(both, 6, "2 would be fixed"))
+        two, one_left = left.format("2 links aren't", 2), left.format("1 link isn't", 1)
+        self.assertEqual(said, two + more.format("2 more links") + counts.format(both, 6, "2 would be fixed"))
         said = self.run_on("--diff", "--unsafe-fixes", "a.html", "b.html")[2]
-        self.assertEqual(said, counts.format(both, 6, "4 would be fixed"))
+        self.assertEqual(said, two + counts.format(both, 6, "4 would be fixed"))
         said = self.run_on("--fix", "a.html")[2]
-        self.assertEqual(said, more.format("1 more link") + counts.format(one, 2, "1 fixed"))
+        self.assertEqual(said, one_left + more.format("1 more link") + counts.format(one, 2, "1 fixed"))
         said = self.run_on("--fix", "a.html")[2]
-        self.assertEqual(said, more.format("1 more link") + counts.format(one, 2, "0 fixed"))
+        self.assertEqual(said, one_left + more.format("1 more link") + counts.format(one, 2, "0 fixed"))
         self.assertEqual(self.run_on("--fix", "--quiet", "b.html")[2], "")
         self.assertNotIn("unsafe", self.run_on("--fix", "--type", "xml", "c.xml")[2])
         said = self.run_on("--fix", "--unsafe-fixes", "a.html")[2]
-        self.assertEqual(said, counts.format(one, 1, "1 fixed"))
+        self.assertEqual(said, one_left + counts.format(one, 1, "1 fixed"))
 
     def test_each_kind(self):
         packages = {"a.css": "tinycss2", "a.md": "markdown_it", "a.ipynb": "markdown_it", "a.rst": "docutils"}
@@ -103,6 +146,55 @@ class Fixing(Texts):
                 self.write(name, text)
                 self.assertEqual(self.run_on("--fix", name)[:2], (0, ""))
                 self.assertEqual(self.read(name).decode(), text.replace(wrong, wanted, 1))
+
+    def test_escapes(self):
+        """A text is written with the escapes that its document needs, and read back as the mended one."""
+        packages = {"a.css": "tinycss2", "a.md": "markdown_it", "a.ipynb": "markdown_it", "a.rst": "docutils"}
+        for name, before, after in ESCAPED:
+            if not importlib.util.find_spec(packages.get(name, "sys")) or ("style=" in before and not importlib.util.find_spec("tinycss2")):
+                continue
+            with self.subTest(before):
+                self.write(name, before)
+                help_of = [it[12:] for it in self.run_on("-q", "--format", "caret", name)[1].splitlines() if it.startswith("help: write ")]
+                self.run_on("--fix", name)
+                self.assertEqual(self.read(name).decode(), after)
+                self.assertTrue(help_of and all(it in after for it in help_of), help_of)
+                self.assertEqual(self.run_on("-q", name), (0, "", ""))
+
+    def test_what_is_uncertain(self):
+        packages = {"a.css": "tinycss2", "a.md": "markdown_it"}
+        for name, before, after in UNCERTAIN:
+            if not importlib.util.find_spec(packages.get(name, "sys")):
+                continue
+            for gfm in ((), ("--gfm",)):
+                with self.subTest(before, gfm=gfm):
+                    self.write(name, before)
+                    said = self.run_on("--fix", *gfm, name)[2]
+                    self.assertEqual(self.read(name).decode(), before)
+                    self.assertIn("1 more link could be fixed with --unsafe-fixes", said)
+                    self.run_on("--fix", "--unsafe-fixes", *gfm, name)
+                    self.assertEqual(self.read(name).decode(), after)
+        # On a page whose address is known it is the same URL.
+        for base, wanted in (('<base href="https://h/">', "http://h/x"), ('<base href="b/">', "http:/h/x")):
+            self.write("a.html", base + '<a href="http:/h/x">')
+            self.run_on("--fix", "a.html")
+            self.assertIn(wanted, self.read("a.html").decode())
+
+    @unittest.skipUnless(importlib.util.find_spec("markdown_it"), "markdown-it-py isn't installed")
+    def test_texts_of_front_matter(self):
+        """A value with a space is perhaps a text, and stays as it is."""
+        text = "---\na: https://h/ is down\nb: |\n  https://h/x^ y\nc:\n  - https://h/^: /y\n---\n"
+        self.write("a.md", text)
+        places = self.run_on("-q", "--fix", "--unsafe-fixes", "a.md")[1]
+        self.assertEqual((places.split(" ")[0], places.count("\n"), self.read("a.md").decode()), ("a.md:2:14:", 1, text))
+
+    @unittest.skipUnless(importlib.util.find_spec("docutils"), "docutils isn't installed")
+    def test_spaces_that_docutils_drops(self):
+        """Readers see the link without its space, so that no other text is offered."""
+        self.write("a.rst", "`a <http://h/b c>`_\n")
+        status, out, said = self.run_on("--fix", "--unsafe-fixes", "--format", "caret", "a.rst")
+        self.assertEqual((status, out.count("\n"), self.read("a.rst")), (1, 3, b"`a <http://h/b c>`_\n"))
+        self.assertIn("0 fixed", said)
 
     def test_difference(self):
         lines = ["<p>{}</p>\n".format(number) for number in range(60)]

@@ -1,6 +1,6 @@
 """Tests of the formats of urlcheck.documents. The package is on PYTHONPATH.
 
-    formats.py PROGRAM: each format is held against that of `PROGRAM lint` over the same links, byte by byte. Where a
+    formats.py PROGRAM: each format is compared with the report of `PROGRAM lint` on the same links, byte by byte. If a
     document says what no located line does, what has to be written is worked out by hand.
 """
 
@@ -55,7 +55,7 @@ class Compared(Reported):
     """Documents without a base of their own and without character references: `lint` writes the same."""
 
     def same(self, name, base=BASE, profile="standard", forms=FORMATS, unit="code-points"):
-        """How many links are refused of what is named, once each format was found to be that of `lint`: in this unit, or in
+        """How many links are refused of what is named, once each format was found to be as `lint` writes it: in this unit, or in
         bytes where the format takes no other."""
         words = ("--base", base, "--profile", profile)
         for form in forms:
@@ -87,7 +87,7 @@ class Compared(Reported):
         folder = os.path.join(self.room, "d")
         for name in ("d", folder, "/" + folder):
             self.assertEqual(self.same(name), 2 * len(NAMES))
-        # (of a name that is given with ./ that stays in formats for people alone)
+        # (of a name that is given with ./ that stays only in formats for people)
         for name in (".", "./d/"):
             self.assertEqual(self.same(name, forms=("gnu", "caret")), 2 * len(NAMES))
         # What turns a text's direction stays in a line of `gnu` that goes to a file.
@@ -106,7 +106,7 @@ class Compared(Reported):
                 self.assertEqual(self.run_on("--base", base, *words, "a.html"), (2, b"", wanted))
 
     def test_documents_that_are_not_read(self):
-        """Of a document that can't be read each format has what that of `lint` has of a file, and `github` a line more."""
+        """A document that can't be read is in each format as a file is in the report of `lint`; `github` has one more line."""
         for form in FORMATS:
             status, wanted, _ = self.run_on("--format", form, "unread.html", program=LINT)
             if form == "github":
@@ -164,23 +164,25 @@ class Alone(Reported):
         self.assertEqual((found["message"], found["rule"]), ("U+200B is before the scheme; leave it out", "no-scheme"))
 
     def test_character_references(self):
-        """The place is that in the source, the texts are those that were read, and no fix writes them."""
+        """The place is that in the source, the text is the one that was read, and what is to be written has the references
+        that its document needs."""
         self.write("a.html", "<a href='a&amp;b c'><a href='?a&b c'>")
         first, second = self.reported("json", "a.html").splitlines()
-        self.assertEqual(first, '{"column":17,"cut":false,"file":"a.html","kind":"same","line":1,"mended":"a&b%20c",'
+        self.assertEqual(first, '{"column":17,"cut":false,"file":"a.html","kind":"same","line":1,"mended":"a&amp;b%20c",'
                          '"message":"U+0020 SPACE is not allowed in a URL","offered":true,"rule":"code-point","text":"a&b c"}')
         self.assertEqual(json.loads(second)["column"], 34)
         first, second = self.results("a.html")
         # (the space, and below a reference of five code points)
         region = {"endColumn": 18, "startColumn": 17, "startLine": 1}
         self.assertEqual(first["locations"][0]["physicalLocation"]["region"], region)
-        self.assertEqual((first["properties"]["text"], "fixes" in first), ("a&b c", False))
+        self.assertEqual(first["properties"]["text"], "a&b c")
+        self.assertEqual(first["fixes"], [self.fix("a.html", (1, 10, 1, 19), "a&amp;b%20c", "same")])
         self.assertEqual(second["fixes"], [self.fix("a.html", (1, 30, 1, 36), "?a&b%20c", "same")])
         caret = self.reported("caret", "a.html").splitlines()
-        self.assertEqual(caret[1:4], ["a&b c", "   ^", "help: write a&b%20c"])
+        self.assertEqual(caret[1:4], ["a&b c", "   ^", "help: write a&amp;b%20c"])
         self.write("b.xml", "<urlset><loc>http://h/?a&amp;b c</loc></urlset>")
         (found,) = self.results("b.xml")
-        self.assertNotIn("fixes", found)
+        self.assertEqual(found["fixes"], [self.fix("b.xml", (1, 14, 1, 33), "http://h/?a&amp;b%20c", "same")])
         region = {"endColumn": 32, "startColumn": 31, "startLine": 1}
         self.assertEqual(found["locations"][0]["physicalLocation"]["region"], region)
         self.write("d.html", "<a href='a&#94;b'>")
@@ -188,10 +190,11 @@ class Alone(Reported):
         # The wrong code point is written as five, and ends after them.
         region = {"endColumn": 16, "startColumn": 11, "startLine": 1}
         self.assertEqual(found["locations"][0]["physicalLocation"]["region"], region)
-        # Without the tab `&amp;` would be there, which is read as another link.
+        # Without the tab `&amp;` would be there, which would be read as `&`.
         self.write("c.html", "<a href='a&am\tp;'>")
-        self.assertEqual(json.loads(self.reported("json", "c.html"))["mended"], "a&amp;")
-        self.assertNotIn("fixes", self.results("c.html")[0])
+        self.assertEqual(json.loads(self.reported("json", "c.html"))["mended"], "a&amp;amp;")
+        (found,) = self.results("c.html")
+        self.assertEqual(found["fixes"], [self.fix("c.html", (1, 10, 1, 17), "a&amp;amp;", "same")])
 
     def test_a_link_over_two_lines(self):
         self.write("a.html", "<p>\n<a href='a\nb^'>")
@@ -272,7 +275,7 @@ class Alone(Reported):
         self.assertEqual(len(self.results("a.html")), 20_000)
 
     def test_columns(self):
-        """Where a link and a wrong place are in each unit: after `h` with a combining mark, two wide code points of three
+        """The columns of a link and a wrong place in each unit: after `h` with a combining mark, two wide code points of three
         bytes, one of four bytes and two code units of UTF-16, and a tab, which goes on to the column 17."""
         text = "<p>h\u0301\u65e5\u672c\U0001f600 \t<a href='x\u65e5 \U0001f600'>\n"
         self.write("a.html", text)

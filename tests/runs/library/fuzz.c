@@ -71,16 +71,18 @@ static void lines(void) {
 
 enum { MESSAGE, DIAGNOSTIC, BEGIN, FILE_BEGIN, FILE_END, END, CALLS };
 
-/* What the calls that write a text are given beside what is left of the input. */
+/* What the calls that write a text are given besides what is left of the input. */
 typedef struct {
     uint32_t profile, wording, rule, first, second;
     size_t place;
+    const urlcheck_base *base;
     urlcheck_reported reported;
 } numbers;
 
 static urlcheck_written written(int call, const numbers *it, uint8_t *out, size_t room) {
     switch (call) {
-        case MESSAGE: return urlcheck_message(input, left, it->profile, it->wording, it->rule, it->place, out, room);
+        case MESSAGE:
+            return urlcheck_message(input, left, it->profile, it->base, it->wording, it->rule, it->place, out, room);
         case BEGIN: return urlcheck_report_begin(it->first, it->second, out, room);
         case FILE_BEGIN: return urlcheck_report_file_begin(it->first, input, left, out, room);
         case FILE_END: return urlcheck_report_file_end(it->first, out, room);
@@ -118,6 +120,8 @@ static void texts(int call) {
     of->within = input + 4 * part, of->within_length = part;
     of->text = input + 5 * part, of->text_length = part;
     of->fix = input + 6 * part, of->fix_length = part;
+    urlcheck_base held = urlcheck_prepare(input, part, it.second % 3);
+    it.base = it.first % 2 ? &held : NULL;
     uint8_t none = 'x';
     urlcheck_written asked = written(call, &it, &none, 0);
     must(none == 'x');

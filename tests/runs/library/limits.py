@@ -20,7 +20,7 @@ from room import PROGRAM, TOP, Texts
 from urlcheck._documents import apart, limits
 from urlcheck._streams import REASONS, reason_of
 
-PART = apart.Taken(1, 1, 0, 0, b"x" * 300_000)
+PART = apart.Taken(documents=1, links=1, lines=bytearray(b"x" * 300_000))
 
 MEMORY_OF_LINKS = 120_000
 """How much memory, in KiB, the program has for 100,000 links, a report on which has 54 MB as SARIF."""
@@ -40,7 +40,7 @@ class Limits(Texts):
                      "urlcheck-documents: '': can't be read: there is no such file",
                      "utf16.html:1:1: this isn't UTF-8, and the document names UTF-16: iconv -f UTF-16 -t UTF-8 makes ",
                      "broken.xml:2:26: can't be read from here on: mismatched tag",
-                     "a.txt: its name's end says no kind"):
+                     "a.txt: it has no known file extension"):
             self.assertIn(word, said)
 
     def test_what_is_not_utf8(self):
@@ -69,7 +69,7 @@ class Limits(Texts):
         self.assertEqual(self.run_on("--list", "a.html", "b.html"), (2, "b.html:1:9:x\n", wanted))
 
     def test_what_github_shows(self):
-        """A document that isn't read to its end has an annotation after those of its links, and a line as by all formats."""
+        """A document that isn't read to its end has an annotation after the annotations of its links, and a line as in all formats."""
         self.write("a,b.html", "<a href='x y'>")
         self.write("broken.xml", "<urlset>\n<loc>http://h/ a</loc><b></urlset>")
         self.write("c.html", b"<a href='x y'>\n\xff")
@@ -98,7 +98,7 @@ class Limits(Texts):
             self.assertEqual(self.run_on("-q", "--format", form, "missing.html")[:2], (2, ""))
 
     def test_the_encoding_that_a_document_names(self):
-        """It is said where the document isn't UTF-8, with what makes it so: the place is that of what iconv writes."""
+        """It is said where the document isn't UTF-8, with what makes it so: the place is in what iconv writes."""
         remedy = ", and the document names {0}: iconv -f {0} -t UTF-8 makes it UTF-8, and - reads what that writes"
         for text, place, encoding in (
             ("<?xml version='1.0' encoding='ISO-8859-1'?>\n<urlset><loc>\xe9 x</loc></urlset>", "2:14", "ISO-8859-1"),
@@ -188,7 +188,7 @@ class Limits(Texts):
         return folder, file
 
     def test_no_module(self):
-        """Where no extension module fits: a sentence on standard error and status 2, and of an import an error with it."""
+        """If no extension module fits: a sentence on standard error and status 2, and of an import an error with it."""
         self.write("urlcheck-documents", "from urlcheck.documents import main\nmain()\n")
         self.write("other.py", "import urlcheck\n")
         remedy = "; the wheel of a release has it, and 'tools/build-library DIR' makes it in a checkout\n"
@@ -221,7 +221,7 @@ class Limits(Texts):
             self.assertIn(b"urlcheck-documents: standard output: can't be written: no space is left\n", ran.stderr)
 
     def test_a_closed_pipe(self):
-        """Where a reader of the report ends before it, that is the status, and nothing is said of it."""
+        """If a reader of the report ends before it, the status says so, and no message does."""
         self.write("a.html", "<a href='x y'>\n" * 20_000)
         for words in ("--list a.html", "a.html", "--format sarif a.html"):
             line = '"{}" -m urlcheck.documents {} | head -c 1 >/dev/null; echo "${{PIPESTATUS[0]}}"'
@@ -229,7 +229,7 @@ class Limits(Texts):
             self.assertEqual((ran.stdout, ran.stderr), (b"3\n", b""), words)
 
     def test_closed_files(self):
-        """Where a file of the three was closed before the start: a status of the page, and no traceback."""
+        """If one of the three files was closed before the start: a status of the page, and no traceback."""
         self.write("a.html", "<a href='x y'>")
         for closed, words, wanted in (
             ("0", "--type html -", 2), ("1", "--list a.html", 3), ("1", "--help", 3), ("1", "a.html", 3),
@@ -320,14 +320,14 @@ class Limits(Texts):
             (lambda: iter([]), 0, None),
         ):
             with self.subTest(fault):
-                faults = [] if fault is None else [apart.Fault(fault)]
+                faults = [] if fault is None else [apart.Told(fault)]
                 self.assertEqual(self.taken(parts), (PART.lines * count, faults))
         _, (fault,) = self.taken(busy)
         self.assertRegex(fault.after(), "^: takes more than 1 seconds (of processor time )?to read$")
 
     def test_documents_of_one_process(self):
-        """What ends a process is said of the document that did it, and the others are read: of each is said what is
-        said of it alone."""
+        """What ends a process is reported of the document that did it, and the others are read: the report on each is as
+        for it by itself."""
         def good():
             limits.has_come()
             yield PART
@@ -371,7 +371,7 @@ class Limits(Texts):
             good: (1, None), endless: (1, slow + " of processor time" + rest),
             silent: (0, slow + " of processor time to read"), waiting: (0, slow + " to read"),
             without_memory: (2, memory + rest), failing: (1, "its reader failed: ValueError('x')"),
-            killed: (0, "lost its process to SIGKILL"), left: (1, memory + rest),
+            killed: (0, "lost its process to SIGKILL"), left: (1, "lost its process to status 0" + rest),
         }
         bad = [it for it in said if it is not good]
         with mock.patch.object(limits, "MOST_SECONDS", 1):
@@ -383,8 +383,9 @@ class Limits(Texts):
                     faults = [it.fault.reason for it in parts if it.fault is not None]
                     count, fault = said[document]
                     with self.subTest(number=number, document=document.__name__):
-                        self.assertEqual((b"".join(it.lines for it in parts), faults),
-                                         (PART.lines * count, [] if fault is None else [fault]))
+                        # (their lines are alike, and what compares long ones on a failure takes minutes)
+                        length = sum(len(it.lines) for it in parts)
+                        self.assertEqual((length, faults), (len(PART.lines) * count, [] if fault is None else [fault]))
                 taking.end()
         with self.assertRaises(ChildProcessError):
             os.wait()
@@ -397,10 +398,10 @@ class Limits(Texts):
         def numbered(length, is_killed=False):
             def parts():
                 kept.append(b"x" * length)
-                yield apart.Taken(1, 1, 0, 0, b"%d " % os.getpid())
+                yield apart.Taken(documents=1, links=1, lines=bytearray(b"%d " % os.getpid()))
                 if is_killed and len(kept) > 1:
                     os.kill(os.getpid(), signal.SIGKILL)
-                yield apart.Taken(0, 0, 0, 0, b"end")
+                yield apart.Taken(lines=bytearray(b"end"))
             return parts
 
         large = 2 * apart.MOST_GROWN
@@ -419,23 +420,24 @@ class Limits(Texts):
         for number in range(6):
             self.write("d/{}c.html".format(number), "<a href='x {}'>".format(number))
         self.write("d/0a.html", "x" * (30 << 20) + "\U0001f600")
-        os.mkfifo(os.path.join(self.room, "d", "1a.html"))
+        os.mkfifo(os.path.join(self.room, "1a.html"))
         self.write("d/2a.html", "<a href='&'>" * 2_000_000)
         self.write("d/3a.html", b"<a href='x y'>\n\xff")
         self.write("d/4a.xml", "<urlset>\n<loc>http://h/ a</loc><b></urlset>")
         self.write("d/5a.html", "<a href='&'>" * 2_000_000)
         said = "urlcheck-documents: d/{}\n"
         faults = [said.format(it) for it in (
-            "0a.html: needs more than 160 MiB of memory to read", "1a.html: takes more than 2 seconds to read",
+            "0a.html: needs more than 160 MiB of memory to read",
             "2a.html: takes more than 2 seconds of processor time to read", "3a.html:2:1: this isn't UTF-8",
             "4a.xml:2:28: can't be read from here on: mismatched tag",
             "5a.html: takes more than 2 seconds of processor time to read",
-        )] + ["urlcheck-documents: 7 documents, 7 links, 7 refused, 0 ignored\n"]
+        )] + ["urlcheck-documents: 1a.html: takes more than 2 seconds to read\n"]
+        faults += ["urlcheck-documents: 7 documents, 7 links, 7 refused, 0 ignored\n"]
         places = ["{}c.html:1:11".format(number) for number in range(6)]
         places[4:4] = ["4a.xml:2:15"]
         run = "from urlcheck import documents; from urlcheck._documents import limits; "
         run += "limits.MOST_SECONDS = 2; limits.MOST_MEMORY = 160 << 20; "
-        run += "import sys; sys.argv[1:] = ['--jobs', sys.argv[1], 'd']; documents.main()"
+        run += "import sys; sys.argv[1:] = ['--jobs', sys.argv[1], 'd', '1a.html']; documents.main()"
         for jobs in ("1", "2", "4"):
             ran = subprocess.run([sys.executable, "-c", run, jobs], cwd=self.room, capture_output=True)
             found = [it.partition(": error")[0] for it in ran.stdout.decode().splitlines()]
@@ -443,7 +445,7 @@ class Limits(Texts):
             self.assertEqual(given, (2, ["d/" + it for it in places], "".join(faults)), jobs)
 
     def test_processes_that_begin_anew(self):
-        """Where the system copies no process, several documents are read by one all the same, and reported alike."""
+        """If the system copies no process, several documents are read by one all the same, and reported alike."""
         for number in range(90):
             self.write("d/{:02}.html".format(number), "<a href='{} y'>\n".format(number) * (number % 7))
         self.write("d/05.html", b"<a href='x y'>\xff")
@@ -500,8 +502,10 @@ class Limits(Texts):
         self.write("a.html", "<a href='x y'>")
         folder = os.path.dirname(os.path.dirname(urlcheck.__file__))
         first = "sys.path.remove(''); sys.path.append({!r}); ".format(folder)
-        checks = first + "from urlcheck._editors import checking as it; "
-        checks += "print(len(it.Checking().check(it.Asked('[a](b c)', 'markdown', 'utf-16'), lambda: False).remarks))"
+        checks = first + "from urlcheck._editors import checking as it; from urlcheck._documents.configuration import NONE; "
+        checks += "from urlcheck._documents.effective import effective; counts = effective(NONE, NONE); "
+        checks += "asked = it.Asked('a.md', '[a](b c)', 'markdown', 'utf-16', counts); "
+        checks += "print(len(it.Checking().check(asked, lambda: False).remarks))"
         reads = first + "from urlcheck import documents; sys.argv[1:] = ['--list', '-q', 'a.html']; "
         reads += "documents.main()"
         for program in (checks, reads):

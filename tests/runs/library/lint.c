@@ -1,5 +1,5 @@
 /*
- * Reports on the lines of a file as `urlcheck lint` does, by the library's calls alone: lint FILE NAME FORMAT UNIT, the
+ * Reports on the lines of a file as `urlcheck lint` does, only by the library's calls: lint FILE NAME FORMAT UNIT, the
  * last two by their numbers. Each text is asked for with no room, with one byte too few and with exactly its room.
  */
 #include "urlcheck.h"
@@ -37,8 +37,8 @@ static urlcheck_written written(const asked *it, uint8_t *out, size_t room) {
         case FILE_END: return urlcheck_report_file_end(format, out, room);
         case END: return urlcheck_report_end(format, URLCHECK_WHOLE, out, room);
         case MESSAGE:
-            return urlcheck_message(of->text, of->text_length, URLCHECK_STANDARD, URLCHECK_WORDING_OPTIONS, it->rule,
-                                    of->numbers.place, out, room);
+            return urlcheck_message(of->text, of->text_length, URLCHECK_STANDARD, NULL, URLCHECK_WORDING_OPTIONS,
+                                    it->rule, of->numbers.place, out, room);
         default: return urlcheck_diagnostic(format, it->is_first, of, out, room);
     }
 }

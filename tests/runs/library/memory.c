@@ -1,6 +1,6 @@
 /*
  * Each allocation of a call is refused in turn, by a malloc and a realloc that count: the call then says so, gives back
- * all that it took, and leaves the caller's buffer alone. Then come all the faults of units repeated a million times,
+ * all that it took, and doesn't touch the caller's buffer. Then come all the faults of units repeated a million times,
  * and last a text of 100 MB. Linked with --wrap of malloc, realloc and free.
  */
 #include "urlcheck.h"
@@ -94,8 +94,8 @@ static uint32_t call(int kind, uint8_t *out, size_t room) {
     case 5: return against(wrong, wrong_length, URLCHECK_WIDE, faults, 8);
     case 6: return urlcheck_check((const uint8_t *)ESCAPED, sizeof ESCAPED - 1, URLCHECK_PARSER, NULL).found.verdict;
     case 7:
-        return urlcheck_message(wrong, wrong_length, URLCHECK_STANDARD, URLCHECK_WORDING_OPTIONS, URLCHECK_CODE_POINT,
-                                13, out, room)
+        return urlcheck_message(wrong, wrong_length, URLCHECK_STANDARD, NULL, URLCHECK_WORDING_OPTIONS,
+                                URLCHECK_CODE_POINT, 13, out, room)
             .found.verdict;
     case 8: return diagnostic(URLCHECK_CARET, out, room);
     case 9: return diagnostic(URLCHECK_JSON, out, room);
@@ -165,7 +165,7 @@ static void refuse_each(int kind) {
 }
 
 /* A unit a million times between two texts: where its first fault is, its rule, how many code points lie between two of
-   them, and how many of them a unit has, by each profile. Worked out by hand from the URL Standard, section 4.3. */
+   them, and how many of them a unit has, under each profile. Worked out by hand from the URL Standard, section 4.3. */
 static const struct repeated {
     const char *base, *before, *unit, *after;
     size_t place;

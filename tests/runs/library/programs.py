@@ -1,14 +1,12 @@
 """Writes the programs of docs/guides and of README.md, and what they print, as files into a folder.
 
-programs.py TOP FOLDER: page.c, page.cpp, page.py and report.py with their outputs are those of the guides on C and Python. Those of
-README.md are start.c, within a function, and start.py, and wheel.py is that of the Python package's README.md. The program in Rattle
-is the crate `caller`, byte for byte.
+programs.py TOP FOLDER: page.c, page.py and report.py with their outputs are from the guides on C and Python. start.py is the program
+of README.md, and wheel.py that of the Python package's README.md.
 """
 
 import pathlib
 import re
 import sys
-import textwrap
 
 top, folder = pathlib.Path(sys.argv[1]), pathlib.Path(sys.argv[2])
 readme = (top / "README.md").read_text(encoding="utf-8")
@@ -26,11 +24,7 @@ def program_of(guide, language, number=0):
     return found[at][1], found[at + 1][1]
 
 
-caller = top / "crates" / "caller"
-rattle = (caller / "src" / "main.rt").read_text(encoding="utf-8")
-if program_of("rattle", "rust") != (rattle, (caller / "stdout").read_text(encoding="utf-8")):
-    sys.exit("FAILED: docs/guides/rattle.md: the program, or what it prints, isn't the crate caller's")
-programs = (("c", "c", 0, "page.c"), ("c", "cpp", 0, "page.cpp"), ("python", "python", 0, "page.py"), ("python", "python", 1, "report.py"))
+programs = (("c", "c", 0, "page.c"), ("python", "python", 0, "page.py"), ("python", "python", 1, "report.py"))
 for guide, language, number, name in programs:
     program, printed = program_of(guide, language, number)
     (folder / name).write_text(program, encoding="utf-8")
@@ -38,9 +32,4 @@ for guide, language, number, name in programs:
 
 wheel = dict(blocks((top / "bindings" / "python" / "README.md").read_text(encoding="utf-8")))
 (folder / "wheel.py").write_text(wheel["python"], encoding="utf-8")
-short = dict(blocks(readme.split("\n## Call it from your program\n")[1].split("\n## ")[0]))
-(folder / "start.py").write_text(short["python"], encoding="utf-8")
-(folder / "start.c").write_text(
-    '#include <stdio.h>\n#include "urlcheck.h"\nint main(void) {\n'
-    '    const uint8_t text[] = "https://example.com/a b";\n    size_t length = sizeof text - 1;\n'
-    + textwrap.indent(short["c"], "    ") + "    return 0;\n}\n", encoding="utf-8")
+(folder / "start.py").write_text(dict(blocks(readme))["python"], encoding="utf-8")

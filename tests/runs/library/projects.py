@@ -5,11 +5,13 @@ import importlib.util
 import os
 import shutil
 import subprocess
+import sys
 import unittest
+import zipfile
 
 from urlcheck import FORMATS
 
-from room import Texts
+from room import PROGRAM, Texts
 
 WRONG = "<a href='x y'>"
 COUNTS = "urlcheck-documents: {} document{}, {} link{}, 0 ignored"
@@ -69,16 +71,194 @@ class Folders(Texts):
         self.write("d/a.html", WRONG)
         status, out, said = self.run_on("-q", "--git", "d")
         self.assertEqual((status, out), (2, ""))
-        self.assertTrue(said.startswith("urlcheck-documents: git doesn't list it: fatal: not a git repository"), said)
+        self.assertTrue(said.startswith("urlcheck-documents: d: git doesn't list it: fatal: not a git repository"), said)
         from unittest import mock
 
         with mock.patch.dict(os.environ, PATH="/nowhere"):
             status, out, said = self.run_on("--list", "-q", "--git", "d")
-        self.assertEqual((status, out, said), (2, "", "urlcheck-documents: git can't be run: there is no such file\n"))
+        self.assertEqual((status, out, said), (2, "", "urlcheck-documents: d: git can't be run: there is no such file\n"))
+
+
+    @unittest.skipUnless(shutil.which("git"), "git isn't installed")
+    def test_what_git_would_run(self):
+        """Nothing is run that the folder's own configuration names, and a folder outside of Git stops no other FILE."""
+        def git(*words):
+            subprocess.run(["git", "-C", "g", "-c", "user.name=a", "-c", "user.email=a@h", *words], cwd=self.room, check=True, capture_output=True)
+
+        self.write("g/a.html", WRONG)
+        self.write("none/a.html", WRONG)
+        self.write("b.html", WRONG)
+        git("init", "-q")
+        git("add", ".")
+        git("commit", "-qm", "a")
+        taken = os.path.join(self.room, "taken")
+        for key in ("core.fsmonitor", "core.pager", "pager.ls-files", "core.sshCommand", "filter.x.clean", "core.askPass", "core.editor"):
+            git("config", key, "touch {}; echo".format(taken))
+        self.write("g/.gitattributes", "* filter=x\n")
+        self.write("g/hooks/post-index-change", "#!/bin/sh\ntouch {}\n".format(taken))
+        os.chmod(os.path.join(self.room, "g/hooks/post-index-change"), 0o755)
+        git("config", "core.hooksPath", os.path.join(self.room, "g/hooks"))
+        status, out, said = self.run_on("--list", "--git", "none", "g", "b.html")
+        self.assertEqual((status, out), (2, "g/a.html:1:10:x y\nb.html:1:10:x y\n"))
+        self.assertIn("urlcheck-documents: none: git doesn't list it: fatal: not a git repository", said)
+        self.assertFalse(os.path.exists(taken))
+        # (without what keeps it, Git does run the first of them)
+        git("ls-files", "--others")
+        self.assertTrue(os.path.exists(taken))
+
+    @unittest.skipUnless(shutil.which("git"), "git isn't installed")
+    def test_a_partial_clone(self):
+        """An object that isn't there isn't fetched, since the folder says by which program."""
+        taken = os.path.join(self.room, "taken")
+        for name in ("g/a.html", "g/d/b.html"):
+            self.write(name, WRONG)
+        line = ("git init -q && git add . && git -c user.name=a -c user.email=a@h commit -qm a && "
+                "git sparse-checkout set --cone --sparse-index d >/dev/null && git config extensions.partialClone o && git config remote.o.promisor true && "
+                "git config remote.o.url 'ext::sh -c touch% {0}' && git config protocol.ext.allow always && rm -rf .git/objects/??").format(taken)
+        subprocess.run(["bash", "-c", line], cwd=os.path.join(self.room, "g"), check=True, capture_output=True)
+        for words in (["g"], ["g/d"]):
+            self.run_on("--list", "--git", *words)
+            self.assertFalse(os.path.exists(taken))
+        # (without what keeps it, Git does fetch)
+        subprocess.run(["git", "-C", "g", "ls-files"], cwd=self.room, capture_output=True, check=False)
+        self.assertTrue(os.path.exists(taken))
+
+    def test_odd_folders(self):
+        """A very deep folder is walked; a FIFO in one isn't read."""
+        deep = self.room
+        for _ in range(1100):
+            deep = os.path.join(deep, "d")
+            os.mkdir(deep)
+        with open(os.path.join(deep, "a.html"), "w", encoding="utf-8") as file:
+            file.write(WRONG)
+        os.mkfifo(os.path.join(self.room, "f.html"))
+        status, out, said = self.run_on("--list", "d", ".")
+        self.assertEqual((status, [it[-16:] for it in out.splitlines()]), (0, ["/a.html:1:10:x y"] * 2))
+        self.assertTrue(said.endswith(": 2 documents, 2 links, 0 ignored; not read: 1 .html\n"), said)
+        name = "a/" * 1100 + "x.html"
+        self.assertEqual(self.run_on("--list", "-q", "--stdin-name", name, "-", stdin=WRONG.encode()), (0, name + ":1:10:x y\n", ""))
+        # (Python's own call goes no deeper than its stack)
+        subprocess.run(["rm", "-r", "d"], cwd=self.room, check=True)
+
+    def test_a_folder_that_is_gone(self):
+        line = 'mkdir gone && cd gone && rmdir ../gone && exec "$@"'
+        for words in (["--list", "a.html"], [os.path.join(self.room, "a.html")]):
+            ran = subprocess.run(["bash", "-c", line, "x", *PROGRAM, *words], cwd=self.room, capture_output=True)
+            said = b"urlcheck-documents: the current folder can't be read: there is no such file\n"
+            self.assertEqual((ran.returncode, ran.stdout, ran.stderr), (2, b"", said))
+
+    def test_names_within_a_book(self):
+        """A name in a book forges no line of a list: its links aren't listed, and the links of the others are."""
+        with zipfile.ZipFile(os.path.join(self.room, "b.epub"), "w") as book:
+            for name in ("x\nother.html:7:1:http://evil.html", "a:1:1:b.html", "c.html"):
+                book.writestr(name, "<a href='x y'>")
+        status, out, said = self.run_on("--list", "-q", "b.epub")
+        self.assertEqual((status, out), (2, "b.epub/c.html:1:10:x y\n"))
+        self.assertEqual(said, "urlcheck-documents: b.epub/x\ufffdother.html:7:1:http://evil.html: its name has a control, which no located line can hold\n"
+                         "urlcheck-documents: b.epub/a:1:1:b.html: its name has what a located line would read as its line and column\n")
+        self.assertEqual(self.run_on("-q", "b.epub")[1].count("\n"), 3)
 
 
 @unittest.skipUnless(HAS_TOML, "nothing reads TOML")
 class Configured(Texts):
+    def test_what_goes_before_what(self):
+        """What is given counts, and otherwise what the file says; the base is checked under the profile that applies."""
+        self.write("a.html", "<a href='http://a_b/'><a href='%zz'>")
+        place = "the base is refused at place 7: U+005F LOW LINE is not allowed in a domain; {} allows it [host-domain]\n"
+        for text, words, wanted in (
+            ("select = ['percent']", ["--select", "host-domain"], "host-domain"),
+            ("select = ['percent']\nignore-rules = ['host-domain']", ["--select", "host-domain"], "host-domain"),
+            ("ignore-rules = ['host-domain']", ["--ignore", "percent"], ""),
+            ("select = ['percent', 'host-domain']", ["--ignore", "percent"], "host-domain"),
+            ("profile = 'wide'", ["--base", "http://a_b/"], "percent"),
+            ("base = 'http://a_b/'\nprofile = 'wide'", ["--base", "http://h/"], "percent"),
+        ):
+            with self.subTest(text=text, words=words):
+                self.write(".urlcheck.toml", text)
+                status, out, said = self.run_on("-q", *words, "a.html")
+                self.assertEqual((status, [it.split("[")[-1].rstrip("]") for it in out.splitlines()], said), (int(bool(wanted)), wanted.split(), ""))
+        for text, words, said in (
+            ("base = 'http://a_b/'\nprofile = 'wide'", ["--profile", "standard"], "{}/.urlcheck.toml: " + place.format("profile='wide'")),
+            ("profile = 'standard'", ["--base", "http://a_b/"], place.format("--profile wide")),
+            ("", ["--base", os.fsdecode(b"http://h/\xff")], "the base isn't UTF-8\n"),
+        ):
+            with self.subTest(text=text, words=words):
+                self.write(".urlcheck.toml", text)
+                wanted = "urlcheck-documents: " + said.format(os.path.realpath(self.room))
+                self.assertEqual(self.run_on("-q", *words, "a.html"), (2, "", wanted))
+
+    def test_within_folders(self):
+        """Kinds and patterns of a configuration count for what is found, as for what is named; a pattern of a configuration within
+        counts from its folder on."""
+        self.write(".urlcheck.toml", "kinds = { 'html.in' = 'html', 'css' = 'html' }\n")
+        self.write("d/.urlcheck.toml", "exclude = ['x.html', 'e/*', 'f/']\n")
+        for name in ("a.html.in", "b.css", "x.html", "d/x.html", "d/e/y.html", "d/f/z.html", "d/g.html"):
+            self.write(name, WRONG)
+        for words in ([], ["--git"] if shutil.which("git") else []):
+            subprocess.run(["git", "init", "-q"], cwd=self.room, check=True, capture_output=True)
+            out = self.run_on("--list", "-q", *words, ".")[1]
+            self.assertEqual([it.partition(":")[0] for it in out.splitlines()], ["./a.html.in", "./b.css", "./d/g.html", "./x.html"] if words else
+                             ["./a.html.in", "./b.css", "./x.html", "./d/g.html"])
+        self.assertEqual(self.run_on("--list", "-q", "d")[1], "d/g.html:1:10:x y\n")
+
+    def test_a_wrong_one_in_a_subfolder(self):
+        """It ends the run before anything is read, fixed or reported."""
+        for number in range(130):
+            self.write("m/{:03}.html".format(number), WRONG)
+        self.write("m/z/a.html", WRONG)
+        self.write("m/z/.urlcheck.toml", "gmf = true\n")
+        for words in (["--format", "sarif"], ["--format", "junit"], ["--fix"], ["--output", "r"], ["--list"]):
+            with self.subTest(words):
+                status, out, said = self.run_on(*words, "m")
+                self.assertEqual((status, out), (2, ""))
+                self.assertRegex(said, "^urlcheck-documents: .*m/z/.urlcheck.toml: there is no key gmf; the nearest is gfm\n$")
+        self.assertEqual(os.path.getsize(os.path.join(self.room, "m/000.html")), len(WRONG))
+        self.assertFalse(os.path.exists(os.path.join(self.room, "r")))
+
+    def test_tables_by_other_words(self):
+        """TOML has several ways to write the same table; each is read, and one that is meant is never passed over."""
+        self.write("a.html", WRONG)
+        for text in ("[tool]\nurlcheck = { ignore = ['x'] }", "[tool.'urlcheck']\nignore = ['x']", "[tool]\nurlcheck.ignore = ['x']",
+                     "tool.urlcheck.ignore = ['x']", "tool = { urlcheck = { ignore = ['x'] } }", "[ tool . urlcheck ]\nignore = ['x']"):
+            with self.subTest(text):
+                self.write("pyproject.toml", text)
+                self.assertEqual(self.run_on("-q", "a.html"), (0, "", ""))
+        self.write("pyproject.toml", "[project]\ndependencies = ['urlcheck']\n")
+        self.assertEqual(self.run_on("-q", "a.html")[0], 1)
+        self.write(".urlcheck.toml", "[tool.urlcheck]\nignore = ['x']")
+        self.assertIn("there is no key tool; here the keys come without [tool.urlcheck]\n", self.run_on("-q", "a.html")[2])
+
+    def test_what_is_no_file(self):
+        self.write("a.html", WRONG)
+        os.mkfifo(os.path.join(self.room, ".urlcheck.toml"))
+        status, out, said = self.run_on("-q", "a.html")
+        self.assertEqual((status, out), (2, ""))
+        self.assertTrue(said.endswith("/.urlcheck.toml: isn't a regular file\n"), said)
+
+    @unittest.skipIf(os.getuid(), "only root may become another user")
+    def test_a_closed_folder_above(self):
+        """What may not be looked into has no configuration."""
+        os.makedirs(os.path.join(self.room, "closed", "open"))
+        os.chmod(os.path.join(self.room, "closed"), 0o700)
+        os.chmod(self.room, 0o755)
+        self.write("a.html", WRONG)
+        # (Python's own modules may be closed to the other user, so a first call has all of them loaded)
+        script = (
+            "import os, sys\n"
+            "from urlcheck.documents import main\n"
+            "words, sys.argv[1:] = sys.argv[1:], ['--list', '-q', 'a.html']\n"
+            "try: main()\n"
+            "except SystemExit: pass\n"
+            "os.chdir('closed/open')\n"
+            "os.setuid(65534)\n"
+            "sys.argv[1:] = words\n"
+            "main()\n"
+        )
+        words = [sys.executable, "-c", script, "--list", "-q", "--type", "html", "-"]
+        ran = subprocess.run(words, cwd=self.room, input=WRONG.encode(), capture_output=True)
+        wanted = b"a.html:1:10:x y\n-:1:10:x y\n"
+        self.assertEqual((ran.returncode, ran.stdout, ran.stderr), (0, wanted, b""))
+
     def test_what_it_says(self):
         """Each key, and that an option goes before it."""
         self.write("a.html", "<a href='http://a_b/'><a href='{{ x }}'><img src=''><a href='c'>")
@@ -121,7 +301,7 @@ class Configured(Texts):
         self.write("c/a.html", WRONG)
         self.assertEqual(self.run_on("-q", "b/a.html")[0], 0)
         self.assertEqual(self.run_on("-q", "c/a.html")[0], 1)
-        # (both of a folder: its own goes before that of the project)
+        # (both of a folder: its own goes before the project's)
         self.write("c/.urlcheck.toml", "ignore = ['x']")
         self.assertEqual(self.run_on("-q", "c")[0], 0)
 
@@ -134,7 +314,7 @@ class Configured(Texts):
             ("profile = 1", "profile is a text"),
             ("base = 'x'", "the base is refused at place 0: it has no scheme [no-scheme]"),
             ("ignore = 'x'", "ignore is a list of texts"),
-            ("ignore = ['(']", "'(' is no regular expression: "),
+            ("ignore = ['(']", "'(' isn't a regular expression: "),
             ("gfm = 1", "gfm is true or false"),
             ("kinds = 1", "kinds is a table of names' ends, each with its kind"),
             ("kinds = { x = 'y' }", "no kind is named 'y': there are html xml "),
@@ -187,7 +367,7 @@ class Several(Texts):
         self.assertEqual(self.run_on("--list", "-q", "--stdin-name", "a.xml", "--type", "html", "-", stdin=WRONG.encode())[1], "a.xml:1:10:x y\n")
         status, _, said = self.run_on("--list", "-q", "--stdin-name", "a", "-", stdin=b"")
         self.assertEqual(status, 2)
-        self.assertIn("its name's end says no kind", said)
+        self.assertIn("it has no known file extension", said)
         self.assertIn("--stdin-name is for standard input, which - is", self.run_on("--list", "--stdin-name", "a.html", "b.html")[2])
         if HAS_TOML:
             self.write("d/.urlcheck.toml", "ignore = ['x']")

@@ -1,6 +1,6 @@
 /*
  * What each call answers to a number that no profile has: that, and nothing else. And what it writes through a null
- * pointer in place of room: nothing. All that a call gives is compared, and not its verdict alone.
+ * pointer in place of room: nothing. All that a call gives is compared, and not only its verdict.
  */
 #include "urlcheck.h"
 
@@ -80,7 +80,7 @@ static void writes_by_none(const char *text, const char *base, uint32_t profile)
                      has_no_parts(&record.parts),
                  "resolve by no profile");
     urlcheck_written said =
-        urlcheck_message(it, length, profile, URLCHECK_WORDING_OPTIONS, URLCHECK_PERCENT, 0, out, most);
+        urlcheck_message(it, length, profile, NULL, URLCHECK_WORDING_OPTIONS, URLCHECK_PERCENT, 0, out, most);
     says_no_more(is_no_profile(said.found) && !said.length, "a message by no profile");
 }
 
@@ -120,7 +120,7 @@ static void batches_by_none(uint32_t profile) {
     }
 }
 
-/* Of a buffer by none no line is found: of no bytes, of a valid line, of one that is refused, and from its end. */
+/* No line is found in a buffer without one: of no bytes, of a valid line, of one that is refused, and from its end. */
 static void lines_by_none(uint32_t profile) {
     const char *const buffers[] = {"", "http://h/\n", "a b\n", "a b", "\n", "http://h/\r\n\na b\r\n"};
     for (size_t at = 0; at < sizeof buffers / sizeof *buffers; at++) {

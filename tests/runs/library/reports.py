@@ -1,4 +1,4 @@
-"""Reports by the calls of the package, held byte by byte against those of `lint --located`: each format with each unit
+"""Reports by the calls of the package, compared byte by byte with the reports of `lint --located`: each format with each unit
 that it has a word for, of links alone and against a base.
 
     reports.py PROGRAM FILE [PROFILE..]: FILE has lines FILE:LINE:COLUMN:LINK. Any other line is taken for a link, and
@@ -6,7 +6,6 @@ that it has a word for, of links alone and against a base.
 """
 
 import itertools
-import json
 import re
 import subprocess
 import sys
@@ -47,7 +46,7 @@ def diagnostics_on(links, unit, base, profile):
             mended = urlcheck.mend(text, base, profile)
             yield urlcheck.Diagnostic(file, line, place, text, answer.rule, answer.place, profile,
                                       mended if isinstance(mended, urlcheck.Mended) else None,
-                                      urlcheck.Region(line, start, line, end))
+                                      urlcheck.Region(line, start, line, end), base=base)
 
 
 def reported(diagnostics, form, unit):
@@ -68,23 +67,6 @@ def wanted(program, path, *words):
     return None if ran.returncode == 2 else ran.stdout
 
 
-# What names another profile: a message of the package looks at the text without its base, and that of `lint` with it.
-NAMED = re.compile(rb"; --profile \w+ allows it|, or use --profile \w+")
-
-
-def is_same(form, found, written):
-    """Whether a report is that of `lint`. GitLab's fingerprints of equal faults of one file are told apart by the package,
-    which counts them, and not by `lint`."""
-    if form != "gitlab" or found is None or written is None:
-        return found == written
-    issues, others, seen = json.loads(found), json.loads(written), set()
-    for issue, other in zip(issues, others):
-        if other["fingerprint"] in seen and issue["fingerprint"] != other["fingerprint"]:
-            issue["fingerprint"] = other["fingerprint"]
-        seen.add(other["fingerprint"])
-    return issues == others
-
-
 def compared(program, path, links, base, name):
     """How many reports on these links are those of `lint`, and how many links they report."""
     profile, words = urlcheck.Profile[name.upper()], ("--profile", name, *(("--base", base) if base else ()))
@@ -95,9 +77,7 @@ def compared(program, path, links, base, name):
         for form in urlcheck.FORMATS:
             found = reported(diagnostics, form, unit)
             written = wanted(program, path, *words, "--format", form, "--columns", unit)
-            if base is not None and written is not None:
-                found, written = NAMED.sub(b"", found), NAMED.sub(b"", written)
-            if not is_same(form, found, written):
+            if found != written:
                 sys.exit("FAILED: the package writes another report than lint {} --format {} --columns {}".format(
                     " ".join(words), form, unit))
             reports += found is not None

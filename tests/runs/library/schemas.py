@@ -1,5 +1,5 @@
 """Holds the schemas of docs/schemas against what is real: schemas.py PROGRAM. Each line of reports in JSON, of PROGRAM and of
-urlcheck.documents, is one by its schema; the configurations that the package takes are those of the other. The package is on
+urlcheck.documents, is one by its schema; the configurations that the package takes are valid by the other. The package is on
 PYTHONPATH."""
 
 import importlib.util

@@ -22,7 +22,7 @@ class Markdown(Texts):
     @has("markdown_it")
     def test_names(self):
         for end in "md markdown mkd mkdn mdown mdwn mdx qmd Rmd MD".split():
-            self.finds("a." + end, "[a](b c) [d](e)\n", "1:14:e\n")
+            self.finds("a." + end, "[a](<b c>) [d](e)\n", "1:6:b c\n1:16:e\n")
 
     @has("markdown_it")
     def test_bare_addresses(self):
@@ -53,25 +53,34 @@ class Markdown(Texts):
                 self.assertEqual([it.split(":", 3)[3] for it in out.splitlines()], links)
         self.write("a.md", "x\n\n- y http://h/a^b\n\n> www.h.x/%4\n\n[z](b c)\n")
         self.checks("a.md", [("3:15", SPACE), ("5:11", "percent"), ("7:6", "no-link")], "--gfm")
-        self.checks("a.md", [])
+        self.checks("a.md", [("7:6", "no-link")])
 
     @has("markdown_it")
     def test_destinations_with_a_space(self):
+        """What looks like a link and is text for a space, in all readings of Markdown, and what isn't meant as one."""
         for text, places in (
-            ("[a](b c)", ["1:6"]), ("![a](my photo.png)", ["1:8"]), ("[a](<b c>)", []), ("[a](b \"c d\")", []),
-            ("`[a](b c)`", []), ("[a] (b c)", []), ("x (b c) [y](z)", []), ("[a][b](c d)\n\n[b]: e", []),
+            ("[a](b c)", ["1:6"]), ("![a](my photo.png)", ["1:8"]), ("`[a](b c)`", []), ("[a] (b c)", []), ("x (b c) [y](z)", []),
+            ("[a][b](c d)\n\n[b]: e", []), ("![b](my pic.png \"T\")", ["1:8"]), ("[a](my page.md 't')", ["1:7"]),
+            ("[![c](my badge.svg)](https://ok/)", ["1:9"]), ("[ref]: http://h/my page.md", ["1:19"]), ("[r]: my page.md", ["1:8"]),
+            ("[r]: my page.md \"T\"", ["1:8"]), ("[a](my file (1).pdf)", ["1:7"]), ("[a](it's mine.md)", ["1:9"]),
+            ("[a]( b c )", ["1:7"]), ("[a [b](c d) e](f)", ["1:9"]), ("[n](a b)\n\n[n]: c", ["1:6"]), ("> - [a](b c)", ["1:10"]),
+            ("[a](b&amp;c d)", ["1:12"]), ("[a](b\tc)", ["1:6"]),
+            # A title isn't a part of a destination, and these aren't links.
+            ("[a](b \"c d\")", []), ("[a](b 'c d')", []), ("[a](b (c d))", []), ("[a](b\n\"c d\")", []), ("\\[a](b c)", []),
+            ("```\n[a](b c)\n```", []), ("$[i](j k)$", []), ("$$\n[i](j k)\n$$", []), ("![](pic.png =100x20)", []), ("handlers[i](event, data)", []),
+            ("<!-- [a](b c) -->", []), ("[^1]: see this.md", []), ("[Ann]: I said so, and more.", []), ("[x]: done", []),
         ):
-            with self.subTest(text):
-                self.write("a.md", text + "\n")
-                rules = ["no-link"] if places else ["code-point"] if "<" in text else []
-                found = [(place, "no-link") for place in places]
-                if rules == ["code-point"]:
-                    found = [("1:7", "code-point")]
-                self.checks("a.md", found, "--gfm")
+            for words in ((), ("--gfm",)):
+                with self.subTest(text, words=words):
+                    self.write("a.md", text + "\n")
+                    self.checks("a.md", [(place, "no-link") for place in places], *words)
+        for text, place in (("[a](<b c>)", "1:7"), ("[a]({{ url }})", "1:5")):
+            self.write("a.md", text + "\n")
+            self.checks("a.md", [(place, SPACE)])
 
     @has("markdown_it")
     def test_a_broken_link_counts_once(self):
-        """An address before the space of a destination isn't one beside it, and a template is told as in HTML."""
+        """An address before the space of a destination isn't one next to it, and a template is told as in HTML."""
         for text, place, rule in (
             ("[a](http://h/a b)", "1:15", "no-link"), ("x www.h.x/a [a](www.h.x/b c) www.h.x/%", "1:26", "no-link"),
             ("[a]({{ url }})", "1:5", "code-point"), ("[a](http://h/{{ url }}/b)", "1:14", "code-point"),
@@ -87,6 +96,23 @@ class Markdown(Texts):
                     self.write("a.html", '<a href="{}">'.format(text[4:-1]))
                     words = [self.run_on("-q", "--gfm", name)[1].split(" ", 1)[1] for name in ("a.md", "a.html")]
                     self.assertEqual(words[0], words[1])
+
+    @has("markdown_it")
+    def test_mdx(self):
+        """Code isn't Markdown, and what is between braces isn't a link; between tags there is Markdown."""
+        for text, links in (
+            ("<a href={url}>x</a> <a href=\"b^\">y</a>", ["1:30:b^"]), ("{list[i](one, two)} [a](b)", ["1:25:b"]),
+            ("export const f = () => handlers[i](event, data)\n\n[a](b)", ["3:5:b"]),
+            ("import a from 'b'\n\nexport const c = {\n  d: e[0](f, g)\n\n}\n\n# T [a](<b c>)", ["8:10:b c"]),
+            ("<A b={`x`} c={{href: 'd e'}}>\n    [x](y)\n</A>", ["2:9:y"]), ("{a `x ${b['}']} y`} [a](b) `{` [c](d) \\{", ["1:25:b", "1:36:d"]),
+            ("```js\n{ [x](y z)\n```\n\n[a](b)", ["5:5:b"]), ("{a && <p>it's {b} Bob's</p>}\n\n[a](b)", ["3:5:b"]),
+            ("a\nimport b [c](d)", ["2:14:d"]), ("[a]: <b c>\n", ["1:7:b c"]), ("---\na: http://h/\n---\nimport b from 'c'\n\n[d](e)", ["2:4:http://h/", "6:5:e"]),
+        ):
+            with self.subTest(text):
+                self.finds("a.mdx", text + "\n", "\n".join(links))
+        self.write("a.mdx", "{/* urlcheck: ignore */}\n<a href='b^'>c</a>\n\n[d](e f)\n\n{ open\n\n[g](h i)\n")
+        self.checks("a.mdx", [("4:6", "no-link")])
+        self.assertIn("a.mdx:6:1: warning: isn't read: braces that don't end\n", self.run_on("a.mdx")[2])
 
     @has("markdown_it")
     def test_many_definitions(self):
@@ -109,10 +135,18 @@ class Markdown(Texts):
              ["3:5:https://h/1", "5:8:https://h/2", "5:22:https://h/3"]),
             ("---\ntext: see https://h/\n---\n", []),
             ("+++\na = \"https://h/%4\"\nb = ['https://h/5']\n+++\n", ["2:6:https://h/%4", "3:7:https://h/5"]),
+            # Escapes are read; blocks of text, texts over lines, and keys aren't links.
+            ('---\na: "http://h/caf\\u00e9"\nb: \'http://h/it\'\'s\'\n---\n', ["2:5:http://h/caf\u00e9", "3:5:http://h/it's"]),
+            ('+++\na = "http://h/caf\\u00e9"\n"https://k/" = 1\n["https://t/"]\nb = """\nhttps://no/"""\n+++\n', ["2:6:http://h/caf\u00e9"]),
+            ("---\na: |\n  https://no/x is here.\nr:\n  - https://a.e/x: /y\n  - >-\n   https://no/\n---\n", []),
+            ("---\na: see\n  https://no/^\nb: https://no/\n  and more\nc: 'https://no/\n  x'\nd:\n  https://h/\n---\n", ["9:3:https://h/"]),
         ):
             with self.subTest(front):
                 line = front.count("\n") + 1
                 self.finds("a.md", front + "[x](y)\n", "".join(it + "\n" for it in links + ["{}:5:y".format(line)]))
+        # (a rule above a text isn't the beginning of one)
+        self.finds("a.md", "---\n\n[x](<a b>)\n\n---\n\n[y](z)\n", "3:6:a b\n7:5:z\n")
+        self.finds("a.md", "---\n- [x](y)\n\n---\n", "2:7:y\n")
         # (what isn't at the start isn't one: there a line below a text makes it a heading)
         self.finds("a.md", "\n---\na: https://h/\n---\n[x](y)\n", "5:5:y\n")
 
@@ -152,6 +186,13 @@ class Rst(Texts):
         self.checks("a.rst", [("2:27", SPACE), ("4:18", SPACE)])
 
     @has("docutils")
+    def test_a_term(self):
+        """A link in a term has its own place, not the place of the same text before it."""
+        for after in ("  one\n", "  one\n  two\n", "  one\n\n  - two\n  - three\n\n"):
+            with self.subTest(after):
+                self.finds("a.rst", ".. http://h/t\n\nhttp://h/t\n" + after, "3:1:http://h/t\n")
+
+    @has("docutils")
     def test_a_space_beside_the_same_link(self):
         """A link with a space has its own place, even if the same one without it, a literal, code or HTML is
         before it."""
@@ -180,8 +221,26 @@ class Rst(Texts):
         self.write("b.rst", ":doc:`x`\n")
         self.checks("a.rst", [("4:21", SPACE), ("6:17", "percent")])
         said = self.run_on("--list", "a.rst", "b.rst")[2]
-        self.assertEqual(said.count("are read for their text alone"), 1)
+        self.assertEqual(said.count("are read only for their text"), 1)
         self.assertTrue(said.startswith("urlcheck-documents: a.rst: roles and directives"), said)
+
+    @has("docutils")
+    def test_what_is_lost(self):
+        """A block that docutils drops is told at its line, and a line that it refuses takes nothing else with it."""
+        link = "`a <http://h/^>`_"
+        for text, places in (
+            ("T\n=\n\n.. image:: http://h/a^b\n   :widht: 3\n", ["4:1"]), ("x\n\n==  ==\n" + link + " x y\n==  ==\n", ["4:1"]),
+            ("+----+---+\n| " + link + " |\n+----+---+\n", ["1:1"]), (".. figure:: a.png\n   :scale: x\n\n   " + link + "\n", ["1:1"]),
+            (".. list-table::\n\n   * - " + link + "\n   - x\n", ["1:1"]), (".. csv-table::\n   :header: \"a\n\n   \"b\" c\n", ["1:1"]),
+            (".. code-block:: c\n   :caption: x\n\n   y\n", []), (".. note::\n", []), ("`x`_ and |y|\n\n   z\n", []),
+        ):
+            with self.subTest(text):
+                self.write("a.rst", text)
+                said = [it.split(": warning: isn't read: ")[0] for it in self.run_on("a.rst")[2].splitlines()[:-1]]
+                self.assertEqual(said, ["urlcheck-documents: a.rst:" + it for it in places])
+        self.write("a.rst", "x\n\n" + "y " * 600_000 + "\n\n" + link + "\n")
+        self.checks("a.rst", [("5:14", SPACE)])
+        self.assertIn("a.rst:3:1: warning: isn't read: a line of more than a MiB\n", self.run_on("a.rst")[2])
 
     @has("docutils")
     def test_nothing_else_is_read(self):
@@ -203,7 +262,7 @@ class Rst(Texts):
 class Notebooks(Texts):
     @has("markdown_it")
     def test_cells(self):
-        """Places are those of the file, and what is said names the cell and its line too."""
+        """Places are in the file, and the message names the cell and its line too."""
         cells = [{"cell_type": "code", "source": ["[a](^)"]},
                  {"cell_type": "markdown", "source": ["# T\n", "\"q\" \u00e9\\n [a](<x y>) [b](c&amp;\t)\n", "\n", "\U0001f600 [d](^)"]},
                  {"cell_type": "markdown", "source": "<a href='e f'>"}, {"cell_type": "markdown", "source": None}, 3]
@@ -224,8 +283,8 @@ class Notebooks(Texts):
     def test_broken(self):
         for text, said in (
             ("{", "a.ipynb:1:2: can't be read from here on: no JSON: expecting property name enclosed in double quotes"),
-            ("[]", "a.ipynb: is no notebook that can be read: it has no cells"),
-            ("{\"cells\": 1}", "a.ipynb: is no notebook that can be read: it has no cells"),
+            ("[]", "a.ipynb: isn't a notebook that can be read: it has no cells"),
+            ("{\"cells\": 1}", "a.ipynb: isn't a notebook that can be read: it has no cells"),
             ("[" * 100_000, "a.ipynb: is nested too deeply"),
         ):
             self.write("a.ipynb", text)
@@ -248,7 +307,12 @@ class Feeds(Texts):
                 row, column = map(int, line.split(":")[1:3])
                 self.assertTrue(text.split("\n")[row - 1][column - 1 :].startswith(wanted), line)
         self.write("feed.json", "{}")
-        self.assertIn("is no JSON Feed", self.run_on("--list", "feed.json")[2])
+        self.assertIn("isn't a JSON Feed", self.run_on("--list", "feed.json")[2])
+
+    def test_surrogates(self):
+        """One in an escape loses no other link: it is read as U+FFFD."""
+        self.write("feed.json", '{"items": [{"url": "http://h/\\ud800", "image": "a b\\ud800"}]}')
+        self.checks("feed.json", [("1:50", SPACE)])
 
     def test_what_is_absolute(self):
         """A `loc`, the `link` of RSS and a `guid` that is a permalink, and the `id` of Atom."""
@@ -345,18 +409,27 @@ class Css(Texts):
     @has("tinycss2")
     def test_links(self):
         self.finds("a.css", "@import 'a b.css';\n@import url(c.css) print;/* url(no) */\n"
-                   "b { background: url( \"d e\" ), url(f%); content: 'url(no)' }\n@media x { c { src: url('g') } }\nd { x: url(h\\) i) }\n",
-                   "1:10:a b.css\n2:13:c.css\n3:23:d e\n3:35:f%\n4:26:g\n")
+                   "b { background: url( \"d e\" ), url(f%); content: 'url(no)' }\n@media x { c { src: url('g') } }\nd { x: url(h\\) i) }\n"
+                   "e { x: image-set(\"j k\" 1x, url(l) type(\"no\")), url( my pic.png ) }",
+                   "1:10:a b.css\n2:13:c.css\n3:23:d e\n3:35:f%\n4:26:g\n5:12:h) i\n6:19:j k\n6:32:l\n6:53:my pic.png\n")
         self.write("b.css", "a { b: url(c\\ d) }\n/* urlcheck: ignore */\ne { f: url('g h') }\r\ni { j: url('\u00e9 k') }")
-        self.checks("b.css", [("1:12", SPACE), ("4:14", SPACE)])
+        self.checks("b.css", [("1:13", SPACE), ("4:14", SPACE)])
+        for text in ("a{background:url(my pic.png)}", "@import url(my pic.png);", "url(my pic.png)"):
+            self.write("c.css", text)
+            self.checks("c.css", [("1:{}".format(text.index(" pic") + 1), SPACE)])
+        # (a surrogate stands for no code point: CSS Syntax, section 4.3.7)
+        self.finds("d.css", "a { b: url(\"x\\d800 y\"), url(z) }", "1:13:x\ufffdy\n1:29:z\n")
 
     @has("tinycss2")
     def test_in_html(self):
         self.write("a.html", "<style>\n@import 'a b';\nc { d: url(e^) }</style>\n<p style='x: url(\"f&amp;g^\")' style='url(no^)'><p style=\"color: red\">"
                    "<a href='h i'>")
         self.checks("a.html", [("2:11", SPACE), ("3:13", SPACE), ("4:26", SPACE), ("4:80", SPACE)])
-        self.write("b.svg", "<svg xmlns='http://www.w3.org/2000/svg'><g style='fill: url(a^)'/></svg>")
-        self.checks("b.svg", [("1:62", SPACE)])
+        self.write("b.svg", "<svg xmlns='http://www.w3.org/2000/svg'><g style='fill: url(a^)'/>\n<style>a { fill: url(b^) }</style>\n"
+                   "<style><![CDATA[a { fill: url('c d') }]]></style><g fill='url(#e f)' mask='none'/></svg>")
+        self.checks("b.svg", [("1:62", SPACE), ("2:23", SPACE), ("3:33", SPACE), ("3:65", SPACE)])
+        self.write("c.html", "<svg><g fill='url(#e f)'/></svg><p style='x: url(my pic.png)'><style>a { b: url(my pic.png) }</style>")
+        self.checks("c.html", [("1:21", SPACE), ("1:52", SPACE), ("1:83", SPACE)])
 
     def test_without_its_package(self):
         """A folder's style sheets are counted, one that is named isn't read, and of HTML that is said."""
@@ -402,8 +475,8 @@ class Books(Texts):
         self.assertEqual((status, out.count("\n")), (2, 1))
         self.assertTrue(said.startswith("urlcheck-documents: a.epub/a.xhtml:1:1: can't be read from here on: "), said)
         large = self.book((("a.html", b" " * (129 << 20)),), compression=zipfile.ZIP_DEFLATED)
-        for data, wanted in ((b"", "is no book"), (b"PK\x03\x04x", "is no book"), (book[:-9], "is no book"),
-                             (large, "holds more than 128 MiB"), (book.replace(b"<a href", b"<b href"), "is no book")):
+        for data, wanted in ((b"", "isn't a book"), (b"PK\x03\x04x", "isn't a book"), (book[:-9], "isn't a book"),
+                             (large, "holds more than 128 MiB"), (book.replace(b"<a href", b"<b href"), "isn't a book")):
             self.write("b.epub", data)
             status, out, said = self.run_on("-q", "b.epub")
             self.assertEqual((status, said.count("\n")), (2, said.count("\n")))

@@ -101,7 +101,7 @@ class Standards(Texts):
             ("f.html", "<img srcset='a&amp;b 1x, &#99; d.png 2x'>", "1:31"),
             ("g.html", "<a ping='a&amp;b &amp;^'>", "1:23"),
             ("h.html", "<meta http-equiv=refresh content='0;url=&amp;^'>", "1:46"),
-            # Of XML in attributes, in which a line's end is read as a space, and in texts.
+            # XML in attributes, in which a line's end is read as a space, and in texts.
             ("a.xml", "<x xmlns='{}'><link href='?a&amp;b=1&#65;c d'/></x>".format(ATOM), "1:68"),
             ("b.xml", "<x xmlns='{}'><link href='?a&#38;b\r\nc'/></x>".format(ATOM), "1:60"),
             ("c.xml", "<x><loc>\n http://h/?a&amp;b=1&#x43;c d </loc></x>", "2:28"),
@@ -132,7 +132,7 @@ class Standards(Texts):
         self.finds("a.html", "<!-- urlcheck: ignore --!>\n<a href=x>\n<a href=y>", "3:9:y\n")
 
     def test_style_sheets(self):
-        """Associating Style Sheets with XML documents: an instruction counts before the outermost element alone."""
+        """Associating Style Sheets with XML documents: an instruction counts only before the outermost element."""
         text = ('<?xml version="1.0"?>\n<?xml-stylesheet href="a b.css" title="t>1"\n  type=\'text/css\'?><?other href="^"?>\n'
                 '<?xml-stylesheet type="text/xsl" href=\' \u00e9&amp;c d.xsl \' ?>\n<?xml-stylesheet?><?xml-stylesheet href=^?>\n'
                 '<!-- urlcheck: ignore -->\n<?xml-stylesheet href="^"?>\n<?xml-stylesheet-2 href="^"?>\n'
@@ -186,7 +186,7 @@ class Standards(Texts):
         self.checks("a.xml", [(it, "opaque-base") for it in ("1:53", "2:13", "3:14", "3:33", "4:7")], "--base", "urn:k")
 
     def test_bases_within_the_base_of_a_page(self):
-        """In XHTML `xml:base` is relative to what `base` says, and that to the document's address alone."""
+        """In XHTML `xml:base` is relative to what `base` says, and that only to the document's address."""
         page = '<html xmlns="{}">{}</html>'
         self.write("a.xhtml", page.format(XHTML, '<base href="foo://h/"/>\n<p xml:base="b/"><a href="//a^b"/></p>'))
         self.checks("a.xhtml", [("2:30", "host-code-point")])

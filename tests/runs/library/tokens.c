@@ -1,4 +1,4 @@
-/* The attributes that gumbo reads in documents, against which tokens.py compares those of urlcheck.documents. A document is
+/* The attributes that gumbo reads in documents, which tokens.py compares with the attributes that urlcheck.documents reads. A document is
  * its length in bytes and a line feed, then its bytes; of each attribute of a tag a line is written, and of each document's
  * end an empty one. */
 #include <gumbo.h>

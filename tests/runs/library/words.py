@@ -9,6 +9,7 @@ import sys
 import unittest
 
 from room import PROGRAM, TOP, Texts
+from urlcheck import RULES
 
 
 class Words(Texts):
@@ -105,7 +106,7 @@ class Words(Texts):
             self.assertEqual(*((it.returncode, it.stdout, it.stderr) for it in ran))
 
     def test_quiet(self):
-        """The counts alone are left out."""
+        """Only the counts are left out."""
         self.write("a.html", "<a href='x y'>")
         for quiet in ("-q", "--quiet"):
             for words, wanted in ((["--list", "a.html"], 0), (["a.html"], 1), (["--check", "a.html"], 1)):
@@ -168,7 +169,13 @@ class Words(Texts):
             ("-x a.html", "there is no option -x"),
             ("--lst a.html", "there is no option --lst; the nearest is --list"),
             ("a.html --Quite=1", "there is no option --Quite; the nearest is --quiet"),
-            ("a.html -v", "there is no option -v; the nearest is --version"),
+            ("-j4 a.html", "there is no option -j4; write --jobs N"),
+            ("a.html -v", "there is no option -v; --format caret shows each link, and --version the version"),
+            ("--recursive docs", "there is no option --recursive; a folder is read with all folders in it"),
+            ("-r docs", "there is no option -r; a folder is read with all folders in it"),
+            ("--timeout=5 a.html", "there is no option --timeout; no link is fetched: only how it is written is checked"),
+            ("--watch docs", "there is no option --watch; the language server checks while a document is edited"),
+            ("--no-cache docs", "there is no option --no-cache; each run reads all, and needs no cache"),
             ("--\x1b[31m a.html", "there is no option --\ufffd[31m"),
             ("--- a.html", "there is no option ---"),
         ):
@@ -197,7 +204,7 @@ class Words(Texts):
         self.write("a.html", "<a href='x y'>")
         formats = "the formats: gnu caret json github sarif checkstyle junit gitlab rdjson"
         units = "the column units: code-points bytes utf16 screen"
-        profiles, kinds = "the profiles: standard wide parser", "the kinds: html xml markdown rst notebook epub css json-feed"
+        profiles, kinds = "the profiles: standard wide parser", "the kinds: html xml markdown mdx rst notebook epub css json-feed"
         for words, wanted, names in (
             (["--format", "sarfi"], "no format is named 'sarfi'; the nearest is sarif", formats),
             (["--format=JSON"], "no format is named 'JSON'; the nearest is json", formats),
@@ -215,6 +222,8 @@ class Words(Texts):
             (["--profile", "wider"], "no profile is named 'wider'; the nearest is wide", profiles),
             (["--profile", ""], "no profile is named ''", profiles),
             (["--type", "htm"], "no kind is named 'htm'; the nearest is html", kinds),
+            (["--type", "md"], "no kind is named 'md'; the nearest is markdown", kinds),
+            (["--type", "ipynb"], "no kind is named 'ipynb'; the nearest is notebook", kinds),
             (["--type", "pdf"], "no kind is named 'pdf'", kinds),
             (["--type", ""], "no kind is named ''", kinds),
         ):
@@ -231,7 +240,7 @@ class Words(Texts):
             status, out, said = self.run_on("--list", "-q", name, "a.html")
             wanted = "urlcheck-documents: {}\n".format(wanted.format(name))
             self.assertEqual((status, out, said), (2, "a.html:1:10:x y\n", wanted))
-        no_kind = "{}: its name's end says no kind: give --type html, xml, markdown or another kind"
+        no_kind = "{}: it has no known file extension: give --type html, xml, markdown or another kind"
         more = "; urlcheck lint checks a list of links"
         for name, wanted in (
             ("l.txt", no_kind + more), ("l.csv", no_kind + more), ("l.TSV", no_kind + more), ("l.text", no_kind),
@@ -260,13 +269,25 @@ class Words(Texts):
                 names = {it.replace("-s ", "-").replace("-l ", "--") for it in re.findall(name, parts)}
                 self.assertEqual(names, wanted)
 
+    def test_short_help(self):
+        """`-h` has what most people need within a screen, and leads to the help, which has each of its options."""
+        status, out, said = self.run_on("-h")
+        self.assertEqual((status, said), (0, ""))
+        lines = out.splitlines()
+        self.assertTrue(10 < len(lines) <= 23 and max(map(len, lines)) < 80, out)
+        whole = self.run_on("--help")[1]
+        self.assertEqual({it for it in re.findall("--[a-z-]+", out) if it not in whole}, set())
+        self.assertIn("--help lists all options.", lines)
+
     def test_values_of_options(self):
-        """The completions have the values that the help names, of each option that takes one of several."""
+        """The completions have the values that the help names, of each option that takes one of several, and the
+        rules."""
         helped = re.split(r"^  (?=-)", self.run_on("--help")[1], flags=re.M)
-        shown = [re.match(r"--([a-z-]+) [A-Z]+ .*?: (.*); without it ", " ".join(it.split())) for it in helped]
+        shown = [re.match(r"--([a-z-]+) [A-Z]+ .*?: (.*); default: ", " ".join(it.split())) for it in helped]
         wanted = {it.group(1): set(re.split(", | or ", it.group(2))) for it in shown if it}
         self.assertEqual(wanted["columns"], {"code-points", "bytes", "utf16", "screen"})
         self.assertEqual({"color", "columns", "format", "profile", "type"}, set(wanted))
+        wanted["select"] = {*RULES, "empty", "no-link"}
         for path, pattern in (
             ("docs/share/completions/urlcheck-documents.bash", r"--([a-z]+)\) words='(.*?)'"),
             ("docs/share/completions/_urlcheck-documents", r"--([a-z]+)=\[.*?\]:[A-Z]+:\((.*?)\)"),
@@ -274,6 +295,7 @@ class Words(Texts):
         ):
             with self.subTest(path), open(os.path.join(TOP, path), encoding="utf-8") as file:
                 found = {name: set(values.split()) for name, values in re.findall(pattern, file.read())}
+                self.assertEqual(found.pop("ignore", wanted["select"]), wanted["select"])
                 self.assertEqual(found, wanted)
 
     def test_examples(self):
@@ -319,7 +341,7 @@ class Words(Texts):
                 counts = "urlcheck-documents: 1 document, 3 links, {} ignored\n".format(count)
                 self.assertEqual(self.run_on("--list", "--ignore", "patterns", "a.html")[2], counts)
         for data, wanted in (
-            (b"\xef\xbb\xbf(", "1: no regular expression: "), (b"a\r\n(\r\n", "2: no regular expression: "),
+            (b"\xef\xbb\xbf(", "1: not a regular expression: "), (b"a\r\n(\r\n", "2: not a regular expression: "),
             (b"\xef\xbb\xbf\xc3\xa9\xff", "1:2: this isn't UTF-8"), (b"\n\xc3", "2:1: this isn't UTF-8"),
         ):
             self.write("p\x1b", data)
@@ -346,7 +368,7 @@ class Words(Texts):
                 self.checks("a.html", [(place, "code-point") for place in places], *words)
                 counts = "urlcheck-documents: 1 document, 3 links, {} ignored\n".format(count)
                 self.assertEqual(self.run_on("--list", *words, "a.html")[2], counts)
-        for name, why in (("wrong", "wrong:2: no regular expression: "), ("missing", "missing: can't be read: ")):
+        for name, why in (("wrong", "wrong:2: not a regular expression: "), ("missing", "missing: can't be read: ")):
             status, out, said = self.run_on("--ignore", "braces", "--ignore", name, "a.html")
             self.assertEqual((status, out), (2, ""))
             self.assertTrue(said.startswith("urlcheck-documents: " + why), said)

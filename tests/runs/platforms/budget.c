@@ -1,5 +1,5 @@
 /*
- * The allocator of platform/heap.c, which is beside this as heap_of_c.c, over one that refuses where more bytes would be
+ * The allocator of platform/heap.c, which is next to this as heap_of_c.c, over one that refuses if more bytes would be
  * in use than the word BUDGET of the environment allows.
  */
 #include <stdint.h>

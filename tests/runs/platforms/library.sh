@@ -43,7 +43,7 @@ awk '/^URLCHECK_/ { node = $1 } /^ *urlcheck_[a-z_0-9]*;$/ { print substr($1, 1,
     "$top/bindings/c/library.map" | sort >"$room/wanted"
 "${cross}nm" -D --defined-only --with-symbol-versions "$shared" | awk '$2 != "A" { print $3 }' | sort >"$room/found"
 diff "$room/wanted" "$room/found" || fail 'it exports other names than bindings/c/library.map'
-"${cross}objdump" -p "$shared" | grep -q 'SONAME *liburlcheck\.so\.0$' || fail 'it has another SONAME'
+"${cross}objdump" -p "$shared" | grep -q 'SONAME *liburlcheck\.so\.0\.5$' || fail 'it has another SONAME'
 
 # ---- programs in C
 

@@ -26,7 +26,7 @@ fail() {
 
 # ---- the packages for Debian, and the archive, as they are unpacked
 
-for package in urlcheck liburlcheck0 liburlcheck-dev python3-urlcheck; do
+for package in urlcheck liburlcheck0.5 liburlcheck-dev python3-urlcheck; do
     file=$packages/${package}_${version}_$architecture.deb
     [ "$(dpkg-deb -f "$file" Architecture)" = $architecture ] || fail "$package is for another machine"
     dpkg -x "$file" "$room/unpacked"

@@ -1,4 +1,4 @@
-# Sourced by tests/runs/platforms.sh: Wine, which runs the program for Windows, and what is tried of that program alone.
+# Sourced by tests/runs/platforms.sh: Wine, which runs the program for Windows, and what is tried only of that program.
 export WINEPREFIX=$room/wine WINEDEBUG=-all
 trap 'wineserver -k || true; rm -rf "$room"' EXIT
 wine wineboot --init >"$room/said" 2>&1 || { cat "$room/said"; echo "FAILED: $part: Wine doesn't start"; exit 1; }

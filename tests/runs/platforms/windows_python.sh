@@ -103,7 +103,7 @@ spoiled() {
 spoiled 'a checksum of another file' 's/\(_native.pyd,sha256=\)./\1-/'
 spoiled 'a file that is not listed' '/_native.pyd/d'
 spoiled 'a tag of another system' 's/^Tag: .*/Tag: cp38-abi3-win32/'
-sed 's/check_lines/check_linez/' "$module" >"$room/spoiled.pyd"
+sed 's/check_arrow/check_arroz/g' "$module" >"$room/spoiled.pyd"
 ! cmp -s "$module" "$room/spoiled.pyd" || fail 'the edit of the module changes nothing'
 if functions_of "$room/spoiled.pyd" >"$room/said"; then fail "a function of another name isn't found"; fi
 if functions_of "$room/loads.exe" >"$room/said" 2>&1; then fail "a module that isn't loaded isn't found"; fi

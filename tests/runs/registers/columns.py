@@ -1,5 +1,5 @@
-"""Tests of many texts in a call: lists, columns of numpy and pandas, arrays of Arrow, the accessor and Spark's functions.
-Each answer is compared with that of the call over one text. What isn't installed is skipped."""
+"""Tests of many texts in a call: lists, columns of numpy and pandas, arrays of Arrow, and the accessor. Each answer is compared
+with the answer of the call for one text. What isn't installed is skipped."""
 
 import ctypes
 import gc
@@ -68,7 +68,7 @@ def listed(column):
 
 class Compared(unittest.TestCase):
     def assertSequenceEqual(self, first, second, msg=None, seq_type=None):
-        """As that of the library, which would look for minutes for how long lists differ."""
+        """As in the library, which would look for minutes for how long lists differ."""
         if first != second:
             pairs = [pair for pair in zip(first, second) if pair[0] != pair[1]]
             self.fail("other answers, of {} and {}: {:.300}".format(len(first), len(second), repr(pairs[:1])))
@@ -134,7 +134,7 @@ class Lists(Compared):
                 ((["\ud800"],), UnicodeEncodeError, "surrogates not allowed"),
                 ((["x"], 5), TypeError, "a base is a str, a urlcheck.Base or None, not int"),
                 ((["x"], None, 3), ValueError, "no profile has the number 3"),
-                ((["x"], None, "wide"), TypeError, "a profile is a urlcheck.Profile, not str"),
+                ((["x"], None, "wider"), ValueError, "no profile has the name wider"),
                 ((["x"], urlcheck.Base("http://h/"), urlcheck.Profile.WIDE), ValueError, "another profile: STANDARD"),
                 ((["x"], "no base"), urlcheck.BaseRefused, "it has no scheme"),
                 (([], "no base"), urlcheck.BaseRefused, "it has no scheme"),
@@ -172,7 +172,7 @@ class Lists(Compared):
 
         def round_of():
             for text in texts:
-                for call in (urlcheck.check, urlcheck.is_valid, urlcheck.resolve, urlcheck.mend, urlcheck.faults):
+                for call in (urlcheck.check, urlcheck.is_valid, urlcheck.resolve, urlcheck.mend, urlcheck.violations):
                     call(text, "http://h/")
                 for words in ((text, 5), (text, None, 9), (text, "no base"), ("\ud800",)):
                     try:
@@ -201,31 +201,6 @@ class Lists(Compared):
         self.assertLessEqual(sys.getrefcount(text), before + 1)
         path = answers[0].path
         self.assertLessEqual(sys.getrefcount(path), 3)
-
-
-class Lines(Compared):
-    def test_lines(self):
-        """Of lines of each end: their count, and each that is refused, with its number and where it is."""
-        from urlcheck._native import check_lines
-
-        data = b"".join(text.encode().replace(b"\n", b"") + end for text, end in zip(TEXTS, 1000 * [b"\n", b"\r\n", b"\r\r\n"]))
-        # (the longest line that is checked, with each end, and one of a byte more)
-        data += b"\n" + 65_536 * b"a" + b"\n" + 65_536 * b"a" + b"\r\n" + 65_537 * b"a"
-        data += b"\n\r\n\xff\n" + 70_000 * b"a" + b"\nhttp://h/ b"
-        wanted, start = [], 0
-        for number, line in enumerate(data.split(b"\n")):
-            text = line[:-1] if line.endswith(b"\r") else line
-            try:
-                answer = urlcheck.check(text.decode(), "http://h/")
-                found = None if answer else (answer.place, answer.rule)
-            except UnicodeDecodeError:
-                found = (0, "not-utf8")
-            found = (0, "line-too-long") if len(text) > 65_536 else found
-            wanted += [(number, *found, start, len(text))] if found else []
-            start += len(line) + 1
-        count, refused = check_lines(data, "http://h/", urlcheck.Profile.STANDARD, 65_536)
-        self.assertEqual((count, refused), (data.count(b"\n") + 1, wanted))
-        self.assertEqual(check_lines(b"", None, urlcheck.Profile.STANDARD, 9), (0, []))
 
 
 class Vectors(Compared):
@@ -320,22 +295,58 @@ class Series(Compared):
         with self.assertRaisesRegex(AttributeError, "a column of texts is wanted, not of int64"):
             pandas.Series([1]).urlcheck
 
+    def test_categories(self):
+        """No text is lost that isn't one of the categories, and none is that is missing."""
+        import urlcheck.pandas
+
+        for categories in (MIXED, ["http://h/ b", "http://H/a", "http://h/ b", None, "http://h/"]):
+            texts = pandas.Series(categories, dtype="category", name="url")
+            for base, profile in SETTINGS:
+                found = urlcheck.check_many(texts, base, profile)
+                self.assertEqual(tuple(map(listed, found)), one_by_one(categories, base, profile))
+                self.assertEqual(listed(urlcheck.resolve_many(texts, base, profile)), resolved(categories, base, profile))
+                made = urlcheck.mend_many(texts, base, profile)
+                self.assertEqual((listed(made.text), listed(made.kind)), mended(categories, base, profile))
+            self.assertEqual((made.text.dtype, made.text.name), (object, "url"))
+        self.assertEqual(listed(texts.urlcheck.resolve()), resolved(categories))
+        with self.assertRaisesRegex(TypeError, "a text is a str, not int"):
+            urlcheck.check_many(pandas.Series([1, 2], dtype="category"))
+        with self.assertRaisesRegex(AttributeError, "a column of texts is wanted, not of category"):
+            pandas.Series([1, 2], dtype="category").urlcheck
+
+    def test_other_classes(self):
+        """A class of a caller's own is a Series, and a table isn't one."""
+        class Own(pandas.Series):
+            """It is of another module."""
+
+        found = urlcheck.check_many(Own(["http://h/", "x"], index=[5, 7]))
+        self.assertEqual((listed(found.valid), list(found.place.index)), ([True, False], [5, 7]))
+        for table in (pandas.DataFrame({"url": ["x"]}), type("Frame", (pandas.DataFrame,), {})({"url": ["x"]})):
+            for call in (urlcheck.check_many, urlcheck.is_valid_many, urlcheck.resolve_many, urlcheck.mend_many):
+                with self.assertRaisesRegex(TypeError, "a column of texts is wanted, not a DataFrame: name one, as frame"):
+                    call(table)
+
+    @unittest.skipUnless(pyarrow and hasattr(pandas, "ArrowDtype"), "no pyarrow, or a pandas before 1.5")
+    def test_types_of_arrow(self):
+        """Each type of texts is read, and the texts that are made have it, unless it has room for the old ones only."""
+        import urlcheck.pandas
+
+        kinds = [pyarrow.string(), pyarrow.large_string(), pyarrow.dictionary(pyarrow.int32(), pyarrow.string())]
+        for kind in kinds + [pyarrow.string_view()] * hasattr(pyarrow, "string_view"):
+            texts = pandas.Series(pandas.array(pyarrow.array(MIXED).cast(kind), pandas.ArrowDtype(kind)))
+            self.assertEqual(tuple(map(listed, urlcheck.check_many(texts))), one_by_one(MIXED))
+            made = urlcheck.mend_many(texts)
+            self.assertEqual((listed(made.text), listed(made.kind)), mended(MIXED))
+            self.assertEqual(listed(texts.urlcheck.resolve()), resolved(MIXED))
+            self.assertEqual(made.text.dtype == texts.dtype, kind in kinds[:2])
+        with self.assertRaisesRegex(AttributeError, "a column of texts is wanted, not of int64"):
+            pandas.Series([1], dtype=pandas.ArrowDtype(pyarrow.int64())).urlcheck
+
     def test_other_missing_values(self):
         texts = pandas.Series(["http://h/", float("nan"), None, pandas.NA, "x"])
         self.assertEqual(listed(urlcheck.is_valid_many(texts)), [True, None, None, None, False])
         with self.assertRaisesRegex(TypeError, "a text is a str, not float"):
             urlcheck.check_many(pandas.Series(["http://h/", 1.5]))
-
-    def test_sparks_functions(self):
-        import urlcheck.spark as spark
-
-        texts = pandas.Series(MIXED)
-        valid, rule, place = one_by_one(MIXED)
-        self.assertEqual(spark.is_valid(texts).tolist(), valid)
-        self.assertEqual(spark.rule(texts).tolist(), rule)
-        self.assertEqual(listed(spark.place(texts)), place)
-        self.assertEqual(spark.resolve(texts).tolist(), resolved(MIXED))
-        self.assertEqual(spark.mend(texts).tolist(), mended(MIXED)[0])
 
 
 class Handed:
@@ -384,6 +395,27 @@ class Handed:
         new.restype, new.argtypes = ctypes.py_object, [ctypes.c_void_p, ctypes.c_char_p, ctypes.c_void_p]
         return (new(ctypes.addressof(self.schema), b"arrow_schema", None),
                 new(ctypes.addressof(self.array), b"arrow_array", None))
+
+
+class Scattered:
+    """Texts that aren't in one buffer, by views or in a dictionary, which are handed out in one if that is asked for."""
+
+    def __init__(self, texts, layout, dictionary=None, is_streamed=False):
+        self.plain, self.wanted = (Streamed([texts]) if is_streamed else Handed(texts, b"U")), []
+        words = None if dictionary is None else Handed([], dictionary)
+        self.own = Handed([], layout, dictionary=words and ctypes.addressof(words.schema)), words
+
+    def handed(self, requested_schema, method):
+        """The exported array, with its own schema unless another one is given."""
+        if requested_schema is None:
+            return self.own[0].__arrow_c_array__()
+        pointer = ctypes.pythonapi.PyCapsule_GetPointer
+        pointer.restype, pointer.argtypes = ctypes.c_void_p, [ctypes.py_object, ctypes.c_char_p]
+        self.wanted.append(Handed.Schema.from_address(pointer(requested_schema, b"arrow_schema")).format)
+        return getattr(self.plain, method)()
+
+    def __arrow_c_array__(self, requested_schema=None):
+        return self.handed(requested_schema, "__arrow_c_array__")
 
 
 class Streamed:
@@ -455,7 +487,7 @@ def values(schema, array):
 
 
 class Arrow(Compared):
-    """By the interface alone, with no library of Arrow."""
+    """Only by the interface, without a library of Arrow."""
 
     def test_answers(self):
         for texts in (TEXTS, MIXED, [None] * 9, []):
@@ -481,6 +513,30 @@ class Arrow(Compared):
                 found = urlcheck.mend_many(Streamed(pieces), base, profile)
                 self.assertEqual(tuple(map(read, found)), mended(texts, base, profile))
             self.assertEqual(read(urlcheck.is_valid_many(Streamed(pieces))), one_by_one(texts)[0])
+
+    def test_texts_that_are_scattered(self):
+        """Texts by views and in a dictionary are asked for in one buffer; numbers in a dictionary aren't texts."""
+        for layout, dictionary in ((b"vu", None), (b"i", b"u"), (b"C", b"U"), (b"l", b"vu")):
+            array = Scattered(MIXED, layout, dictionary)
+            self.assertEqual(tuple(map(read, urlcheck.check_many(array))), one_by_one(MIXED))
+            self.assertEqual(read(urlcheck.resolve_many(array)), resolved(MIXED))
+            self.assertEqual(array.wanted, [b"U", b"U"])
+        for layout, dictionary, said in ((b"i", b"l", "i with a dictionary"), (b"l", None, "l"), (b"vz", None, "vz")):
+            with self.assertRaisesRegex(TypeError, "an array of strings is wanted, not one of the Arrow format {}$".format(said)):
+                urlcheck.check_many(Scattered(["x"], layout, dictionary))
+
+    def test_no_arrays(self):
+        """A stream without an array asks for base, profile and type as one with an empty array does."""
+        for pieces in ([], [[]]):
+            for call in (urlcheck.check_many, urlcheck.is_valid_many, urlcheck.resolve_many, urlcheck.mend_many):
+                with self.assertRaises(urlcheck.BaseRefused):
+                    call(Streamed(pieces), "no base")
+                with self.assertRaisesRegex(ValueError, "no profile has the number 3"):
+                    call(Streamed(pieces), None, 3)
+                other = Streamed(pieces)
+                other.schema.format = b"l"
+                with self.assertRaisesRegex(TypeError, "an array of strings is wanted, not one of the Arrow format l"):
+                    call(other)
 
     def test_missing_texts_that_nobody_counted(self):
         """An array may say that it doesn't know how many texts are missing, by -1: its bits say which are."""
@@ -578,14 +634,22 @@ class PyArrow(Compared):
         none = pyarrow.chunked_array([], pyarrow.string())
         self.assertEqual(len(urlcheck.check_many(none).valid), 0)
         self.assertEqual((len(urlcheck.resolve_many(none)), *map(len, urlcheck.mend_many(none))), (0, 0, 0))
+        with self.assertRaises(urlcheck.BaseRefused):
+            urlcheck.check_many(none, "no base")
+        for other in (pyarrow.chunked_array([], pyarrow.int64()), pyarrow.array([1]), pyarrow.table({"url": ["x"]})):
+            with self.assertRaisesRegex(TypeError, "an array of strings is wanted"):
+                urlcheck.check_many(other)
 
-    def test_sparks_batches(self):
-        import urlcheck.spark as spark
-
-        batch = pyarrow.RecordBatch.from_pydict({"n": list(range(len(MIXED))), "url": MIXED})
-        *_, last = spark.findings("url")([batch, batch])
-        self.assertEqual(last.schema.names, ["n", "url", "valid", "rule", "place"])
-        self.assertEqual(tuple(last.column(name).to_pylist() for name in ("valid", "rule", "place")), one_by_one(MIXED))
+    def test_texts_that_are_scattered(self):
+        """Texts by views and in dictionaries, whole, from a place on, and in chunks."""
+        kinds = [pyarrow.dictionary(index(), text()) for index in (pyarrow.int8, pyarrow.int32) for text in (pyarrow.string, pyarrow.large_string)]
+        for kind in kinds + [pyarrow.string_view()] * hasattr(pyarrow, "string_view"):
+            whole = pyarrow.array(MIXED[:120]).cast(kind)
+            for array in (whole, whole[5:], pyarrow.chunked_array([whole[:50], whole[50:]]), pyarrow.chunked_array([], kind)):
+                texts = array.to_pylist()
+                self.assertEqual(tuple(map(listed, urlcheck.check_many(array))), one_by_one(texts))
+                self.assertEqual(listed(urlcheck.resolve_many(array)), resolved(texts))
+                self.assertEqual(tuple(map(listed, urlcheck.mend_many(array))), mended(texts))
 
 
 if __name__ == "__main__":

@@ -1,6 +1,6 @@
 # Sourced by tests/runs/registers.sh: Python's extension module over lists and columns, by each Python that is here, and
 # under sanitizers.
-# shellcheck shell=bash disable=SC2154 # (its variables are those of the file that reads it)
+# shellcheck shell=bash disable=SC2154 # (the file that reads it sets its variables)
 
 # described PYTHON : its version and which of numpy, pandas and pyarrow it has; nothing of one before 3.8
 described() {
@@ -16,7 +16,7 @@ PYTHON
 column_pythons() {
     local python is
     declare -A seen=()
-    for python in python3 /usr/bin/python3 python3.{8..14} "${PYENV_ROOT:-$HOME/.pyenv}"/versions/*/bin/python3; do
+    for python in python3 /usr/bin/python3 python3.{8..14} "${PYENV_ROOT:-${HOME:-}/.pyenv}"/versions/*/bin/python3; do
         is=$(described "$python" || true)
         if [ -n "$is" ] && [ -z "${seen[$is]:-}" ]; then
             seen[$is]=$python
@@ -26,7 +26,7 @@ column_pythons() {
 }
 
 if [ ! -d "$library/python" ]; then
-    echo "registers: the columns of Python are left out, since Python.h isn't installed"
+    left_out registers 'the columns of Python' "Python.h isn't installed"
 else
     ran=()
     while IFS= read -r python; do
@@ -34,6 +34,7 @@ else
         quietly "$python" "$top/tests/runs/registers/page.py" python python
         ran+=("$(described "$python")")
     done < <(column_pythons)
+    [ ${#ran[@]} -gt 0 ] || fail 'columns: no Python was found'
     sanitizer=$(gcc -print-file-name=libasan.so)
     if [ -f "$sanitizer" ] && headers=$(. "$top/tools/builds.sh" && python_headers); then
         mkdir -p "$room/sanitized" "$room/native"
@@ -68,12 +69,10 @@ arrow.c|s/wide\[at\] = offsets\[at\]/wide[at] = (int16_t)offsets[at]/
 arrow.c|s/\&\& !texts->data//
 arrow.c|s/array->null_count == 0/array->null_count <= 0/
 many.c|s/return batch.row;/return 0;/
-lines.c|s/size--;/size -= 0;/
-lines.c|s/length > most/length >= most/
 EDITS
         ran+=('spoiled copies fail')
     else
-        echo "registers: no sanitizers, since gcc's aren't installed"
+        left_out registers 'sanitizers' "gcc's aren't installed"
     fi
     echo "registers: columns by Python $(printf '%s; ' "${ran[@]}" | sed 's/; $//')"
 fi

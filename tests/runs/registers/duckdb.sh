@@ -1,5 +1,6 @@
-# Sourced by tests/runs/registers.sh: the extension for DuckDB, from its shell.
-# shellcheck shell=bash disable=SC2154 # (its variables are those of the file that reads it)
+# Sourced by tests/runs/registers.sh: the extension for DuckDB, from its shell. NEWER may name a folder in which Debian's
+# packages duckdb and libduckdb-dev are laid out, with all that they need, for a Debian that has none of its own.
+# shellcheck shell=bash disable=SC2154 # (the file that reads it sets its variables)
 
 # in_duckdb EXTENSION : what DuckDB's shell answers to the statements on standard input, with the extension loaded
 in_duckdb() {
@@ -20,8 +21,19 @@ on_cases() {
         python3 "$top/tests/runs/registers/vectors.py" compare duckdb "$room/found" "$3" "$3_mended" "$2"
 }
 
-if ! command -v duckdb >/dev/null || [ ! -f /usr/include/duckdb_extension.h ]; then
-    echo 'registers: DuckDB is left out, since duckdb and libduckdb-dev are not installed (Debian 12 has no such packages)'
+# of_newer TREE : DuckDB's shell and headers are in a folder, whose programs its own loader starts
+of_newer() {
+    mkdir "$room/headers" "$room/programs"
+    cp "$1"/usr/include/duckdb*.h "$room/headers/"
+    printf '#!/bin/sh\nexec "%s" --library-path "%s" "%s" "$@"\n' "$1/usr/lib64/ld-linux-x86-64.so.2" \
+        "$1/usr/lib/x86_64-linux-gnu" "$1/usr/bin/duckdb" >"$room/programs/duckdb"
+    chmod +x "$room/programs/duckdb"
+    export CFLAGS="-O2 -g -I$room/headers" PATH=$room/programs:$PATH
+}
+if [ ! -f /usr/include/duckdb_extension.h ] && [ -n "${NEWER:-}" ]; then of_newer "$NEWER"; fi
+
+if ! command -v duckdb >/dev/null; then
+    left_out registers DuckDB 'duckdb and libduckdb-dev are not installed (Debian 12 has no such packages)'
 else
     mkdir -p "$room/duckdb"
     quietly make -B -f "$top/bindings/engines/duckdb/Makefile" OUT="$room/duckdb" LIBRARY="$library" \
@@ -48,9 +60,10 @@ else
 common/names.h|s/{"standard", "wide", "parser"}/{"standard", "parser", "wide"}/
 common/request.h|s/profile, base.bytes, base.length, out/profile, url.bytes, url.length, out/
 duckdb/rows.c|s/(int64_t)place + 1/(int64_t)place/
+duckdb/rows.c|s/request->base = (slice){NULL, 0}/request->base.bytes = NULL/
 duckdb/rows.c|s/request->own.profile == profile \&\& //
 duckdb/rows.c|s/is_same(request->base, base);/true;/
-duckdb/texts.c|s/part_of(&answer.parts, question - PARTS)/part_of(\&answer.parts, 0)/
+duckdb/texts.c|s/part_of(&answer.parts, (int)(question - PARTS))/part_of(\&answer.parts, 0)/
 duckdb/nested.c|s/element.row++/element.row += 0/
 duckdb/nested.c|s/entry->offset = \*first/entry->offset = 0/
 duckdb/nested.c|s/duckdb_list_vector_set_size(out.column, \*first + count)/DuckDBSuccess/

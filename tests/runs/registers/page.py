@@ -1,5 +1,5 @@
-"""The blocks of the guides on databases and columns, for the runs that take them: GUIDE is the name of a page of docs/guides, and
-SECTION one of its headings.
+"""The blocks of the pages on databases and columns, for the runs that take them: GUIDE is the name of a page, by its path from
+docs/guides, and SECTION one of its headings.
 
     page.py sql GUIDE SECTION       writes the blocks in SQL of a section, one after the other
     page.py errors GUIDE SECTION    writes what its comments say that the server says: lines of ERROR, DETAIL and HINT

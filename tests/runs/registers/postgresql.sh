@@ -1,5 +1,5 @@
 # Sourced by tests/runs/registers.sh: the extension for PostgreSQL, in a private server.
-# shellcheck shell=bash disable=SC2154 # (its variables are those of the file that reads it)
+# shellcheck shell=bash disable=SC2154 # (the file that reads it sets its variables)
 
 . "$top/tests/runs/registers/server.sh"
 
@@ -174,7 +174,8 @@ prepares() {
     local before found
     before=$(grep -c 'bases checked' "$data/log" || true)
     sql -d regress -c 'SET max_parallel_workers_per_gather = 0' -c "$1" >/dev/null
-    for _ in {1..50}; do
+    # (a session writes into the log as it ends, which a busy machine may put off)
+    for _ in {1..600}; do
         found=$({ grep 'bases checked' "$data/log" || true; } | tail -n +$((before + 1)))
         [ -z "$found" ] || break
         sleep 0.1
@@ -189,11 +190,11 @@ bases() {
 }
 
 if ! has_server; then
-    echo 'registers: PostgreSQL is left out, since postgresql and postgresql-server-dev-all are not installed'
+    left_out registers PostgreSQL 'postgresql and postgresql-server-dev-all are not installed'
 else
     postgres_tree
     cp "$counter" "$room/prepares.so"
-    preloaded="$room/prepares.so $room/server/liburlcheck.so.0"
+    preloaded="$room/prepares.so $room/server/liburlcheck.so.0.5"
     start_server
     regress
     vectors "$cases" "$answers/wanted" || fail 'postgresql: vectors'

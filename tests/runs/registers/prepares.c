@@ -10,12 +10,12 @@
 
 static unsigned long count;
 
-urlcheck_base urlcheck_prepare(const uint8_t *base, size_t length, uint32_t profile) {
-    urlcheck_base (*prepare)(const uint8_t *, size_t, uint32_t);
+void urlcheck_prepare_to(urlcheck_base *answer, const uint8_t *base, size_t length, uint32_t profile) {
+    void (*prepare)(urlcheck_base *, const uint8_t *, size_t, uint32_t);
 
-    *(void **)&prepare = dlsym(RTLD_NEXT, "urlcheck_prepare");
+    *(void **)&prepare = dlsym(RTLD_NEXT, "urlcheck_prepare_to");
     count++;
-    return prepare(base, length, profile);
+    prepare(answer, base, length, profile);
 }
 
 __attribute__((destructor)) static void say(void) {

@@ -1,6 +1,6 @@
 # Sourced by what needs a server of PostgreSQL with the extension: a private one, in the folder of the run. The server is copied
 # there, since it looks for extensions where its program is; nothing is installed, and it runs as a normal user.
-# shellcheck shell=bash disable=SC2154 # (its variables are those of the file that reads it)
+# shellcheck shell=bash disable=SC2154 # (the file that reads it sets its variables)
 
 # postgres_tree : where the installed server's folders are, by its own word
 postgres_tree() {
@@ -39,7 +39,7 @@ add_extension() {
     # (nothing that was built before)
     find "$room/extension" \( -name '*.o' -o -name '*.so' -o -name '*.bc' \) -delete
     make_extension "$room/extension" install DESTDIR="$tree"
-    cp -L "$library/lib/liburlcheck.so.0" "$tree/"
+    cp -L "$library/lib/liburlcheck.so.0.5" "$tree/"
     cp "$top/bindings/engines/postgresql/test/next.sql" \
         "$tree$share/extension/urlcheck--$(cat "$top/VERSION")--next.sql"
     # (the SQL of versions before this one, as they were released)

@@ -127,12 +127,15 @@ class Registers(unittest.TestCase):
         self.refuses(sqlite3.OperationalError, "invalid base URL: the bytes from here on are not UTF-8", "SELECT url_is_valid('x', {})".format(wrong))
 
     def test_messages(self):
-        """As `urlcheck lint` says them, in the words of SQL; in a longer text than 4096 bytes later faults by their rules alone."""
+        """As `urlcheck lint` says them, in the words of SQL; in a longer text than 4096 bytes later faults only by their rules."""
         self.assertEqual(self.one("SELECT url_message('http://a_b/'), url_message('http://a_b/', NULL, 'wide')"),
                          ("U+005F LOW LINE is not allowed in a domain; profile 'wide' allows it", None))
+        self.assertEqual(self.one("SELECT url_message('//a_b/', 'http://h/'), url_message('//a_b/ ', 'http://h/')"),
+                         ("U+005F LOW LINE is not allowed in a domain; profile 'wide' allows it",
+                          "U+005F LOW LINE is not allowed in a domain"))
         self.assertEqual(self.one("SELECT url_message('http://a..b/'), url_message('www.example.com')"),
                          ("a label of this domain is empty",
-                          "there is no scheme and no base; write https:// before a host, or name its base (base)"))
+                          "there is no scheme and no base; write https:// before a host, or give the address of its page (base)"))
         self.assertEqual(self.one("SELECT url_message('http://u@h/', 'http://h/')"),
                          "a URL string has no credentials: no user name, password or @ before its host; leave them out")
         for length, said in ((4096, "U+005E CIRCUMFLEX ACCENT"), (4097, "this code point")):
@@ -141,7 +144,7 @@ class Registers(unittest.TestCase):
             self.assertEqual(found, (said + " is not allowed in a URL", *2 * ["U+005E CIRCUMFLEX ACCENT is not allowed in a URL"]))
 
     def test_nothing_is_stored(self):
-        """Of a statement that meets a bad argument, or a text that is refused, no row stays."""
+        """No row stays from a statement that meets a bad argument, or a text that is refused."""
         self.database.execute("CREATE TABLE link (url TEXT CHECK (url_require(url)), base TEXT, made TEXT AS (url_resolve(url, base)) STORED)")
         for rows in ("('http://h/', NULL), ('http://h/ b', NULL)", "('http://h/', NULL), ('http://h/', 'no base')"):
             with self.assertRaises(sqlite3.OperationalError):

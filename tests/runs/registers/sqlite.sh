@@ -1,6 +1,6 @@
 # Sourced by tests/runs/registers.sh: the loadable extension for SQLite, from its shell, from Python, and under
 # valgrind.
-# shellcheck shell=bash disable=SC2154 # (its variables are those of the file that reads it)
+# shellcheck shell=bash disable=SC2154 # (the file that reads it sets its variables)
 
 # sqlite_python : a Python whose sqlite3 loads extensions
 sqlite_python() {
@@ -33,7 +33,7 @@ from_python() {
 }
 
 if [ ! -f /usr/include/sqlite3ext.h ] || ! command -v sqlite3 >/dev/null; then
-    echo 'registers: SQLite is left out, since sqlite3 and libsqlite3-dev are not installed'
+    left_out registers SQLite 'sqlite3 and libsqlite3-dev are not installed'
 else
     build_sqlite "$room/sqlite"
     module=$room/sqlite/mod_urlcheck
@@ -44,7 +44,8 @@ else
         [ ! -s "$room/valgrind" ] || fail "sqlite: valgrind: $(head -30 "$room/valgrind")"
         valgrind=', valgrind silent'
     else
-        valgrind=', no valgrind'
+        valgrind=
+        left_out registers 'SQLite under valgrind' "valgrind isn't installed"
     fi
     # (a base that is constant, and one of each row)
     for base in "'http://h/':1" "'http://h' || n || '/':100"; do

@@ -1,9 +1,9 @@
-"""The cases of the vectors for an engine, and its answers beside those of the library.
+"""The cases of the vectors for an engine, and its answers compared with the library's.
 
     vectors.py statements CASES       writes the cases, and a query over them in each profile, for PostgreSQL
     vectors.py duckdb CASES TABLE     writes the cases as CSV into TABLE, and a query over them for DuckDB
     vectors.py compare NAME FOUND WANTED MENDED CASES
-                                      compares an engine's answers with those of answers.c (see tests/runs/library)
+                                      compares an engine's answers with answers.c's (see tests/runs/library)
 
 An engine's line of answers has, parted by tabs and each as JSON: rule, place (from 1), the six parts, the text of the URL,
 the mended text, its kind, and the faults as rule and place; or the words `base refused`. The cases come in their order, each

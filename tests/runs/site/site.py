@@ -115,7 +115,7 @@ def check_page(browser, contrast, name, width, scheme, wrong):
 
 
 def search(browser, address, seconds):
-    """Where the results of a search lead to, once there are some, or none within so many seconds."""
+    """Returns the targets of a search's results, once there are some, or nothing within so many seconds."""
     browser.get(address + "index.html")
     found, end = [], time.time() + seconds
     while not found and time.time() < end:

@@ -25,7 +25,7 @@ ends_with 1 $? 'urlcheck: 70001 lines, 1 refused\n' 'lint of a long input'
 printf '%b' "-:$wrong" | cmp -s - "$room/out" || fail "lint of a long input: it wrote $(head -c 80 "$room/out")"
 
 # A pipe without a reader, a full device, and a pipe that brings a line late.
-(sleep 0.2; "$program" check urn:a 2>"$room/err"; echo $? >"$room/status") | true
+to_nobody "$program" check urn:a
 ends_with 3 "$(cat "$room/status")" '' 'check to a closed pipe'
 "$program" check urn:a >/dev/full 2>"$room/err"
 ends_with 3 $? "${no_space}write\\n" 'check to a full device'

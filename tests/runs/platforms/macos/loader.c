@@ -92,7 +92,7 @@ static const struct {
     {"_open", (void *)mac_open},     {"_read", (void *)mac_read},     {"_realloc", (void *)realloc},
     {"_signal", (void *)signal},     {"_write", (void *)mac_write},   {"dyld_stub_binder", (void *)abort},
     {"_getenv", (void *)getenv},     {"_isatty", (void *)isatty},
-    /* (this for the allocator with a budget alone) */
+    /* (only for the allocator with a budget) */
     {"_strtoull", (void *)strtoull},
 };
 

@@ -12,7 +12,7 @@ SHA256 = 2
 
 
 def part(data: bytes) -> "tuple[int, int]":
-    """Where the signature is, and how long."""
+    """Returns the place of the signature, and its length."""
     magic, _, _, _, count = struct.unpack_from("<5I", data)
     at = 32
     if magic != 0xFEEDFACF:

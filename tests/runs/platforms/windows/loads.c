@@ -1,4 +1,4 @@
-/* loads MODULE: loads an extension module, as Python does, and prints its name and those of its functions, in order. */
+/* loads MODULE: loads an extension module, as Python does, and prints its name and its functions' names, in order. */
 #define Py_LIMITED_API 0x03080000
 #include <Python.h>
 

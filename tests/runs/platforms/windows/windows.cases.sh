@@ -1,4 +1,4 @@
-# What the program for Windows does with names, patterns, units of UTF-16 and ends of lines. `units` beside the program hands
+# What the program for Windows does with names, patterns, units of UTF-16 and ends of lines. `units` next to the program hands
 # it any units (see units.c).
 
 wrong='1:1: error: there is no scheme and no base [no-scheme]\n'
@@ -36,7 +36,7 @@ mkdir "$room/many"
 for number in {100..199}; do printf 'x\n' >"$room/many/$number.txt"; done
 expect 1 "$(printf "many/%d.txt:$wrong\\\\n" {100..199} | tr -d '\n')" 'urlcheck: 100 lines, 100 refused\n' lint 'many\*'
 
-# A text stays as it is: that of `check` and `mend`, and a base; also one that looks like a name, or a pattern.
+# A text stays as it is, for `check` and `mend` and as a base; also one that looks like a name, or a pattern.
 expect 1 'refused 10 code-point\n' '' check 'http://h/?\'
 expect 0 'mended escaped\nhttp://h/?%5C*\n' '' mend 'http://h/?\*'
 expect 0 'valid\nscheme http\nhost domain h\nsegment folder\nsegment *.links\n' '' check --base http://h/ 'folder/*.links'
