@@ -9,10 +9,12 @@ _urlcheck_documents() {
         --profile) words='standard wide parser' ;;
         --format) words='gnu caret json github sarif checkstyle junit gitlab rdjson' ;;
         --columns) words='code-points bytes utf16 screen' ;;
-        --type) words='html xml markdown rst notebook epub css json-feed' ;;
+        --type) words='html xml markdown mdx rst notebook epub css json-feed' ;;
         --color) words='auto always never' ;;
-        --ignore | --baseline | --write-baseline | --output) takes_files=yes ;;
-        --base | --select | --exclude | --stdin-name | --jobs) ;;
+        --select) words='no-scheme opaque-base two-slashes host-missing host-domain host-number host-ipv6 host-code-point port-digit port-range first-segment-empty drive-after-host code-point percent empty no-link' ;;
+        --ignore) words='no-scheme opaque-base two-slashes host-missing host-domain host-number host-ipv6 host-code-point port-digit port-range first-segment-empty drive-after-host code-point percent empty no-link' takes_files=yes ;;
+        --baseline | --write-baseline | --output) takes_files=yes ;;
+        --base | --exclude | --stdin-name | --jobs) ;;
         *) words='--list --format --columns --base --profile --type --select --ignore --exclude --git --gfm --no-empty --no-config --stdin-name --fix --unsafe-fixes --diff --statistics --baseline --write-baseline --exit-zero --output --color --jobs --quiet -q --help -h --version -V'
            takes_files=yes ;;
     esac
