@@ -7,6 +7,7 @@ pub(crate) mod drive;
 pub(crate) mod intention;
 pub(crate) mod ipv4;
 pub(crate) mod ipv6;
+pub(crate) mod marks;
 pub(crate) mod message;
 pub(crate) mod named;
 pub(crate) mod pieces;

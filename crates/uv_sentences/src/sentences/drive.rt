@@ -6,8 +6,12 @@ use uv_model::is_name;
 
 /// Whether a text is a `file` link whose first segment, after at most three slashes, is a letter and `|`.
 pub(crate) fn has_barred_drive(text: &str) -> bool {
-    let path = without_slash(without_slash(without_slash(after(text, ':'))));
-    is_file_link(text) && is_barred_drive(before_end(path).as_bytes())
+    is_file_link(text) && is_barred_drive(first_segment(after(text, ':')).as_bytes())
+}
+
+// The first segment of what follows the scheme's `:`, after at most three slashes.
+fn first_segment(text: &str) -> &str {
+    before_end(without_slash(without_slash(without_slash(text))))
 }
 
 // Whether a segment is a letter and `|`, which the URL parser reads as a drive letter.

@@ -4,6 +4,7 @@
 use crate::places::seen_text::SeenText;
 use crate::sentences::authority::{authority_of, before_query};
 use crate::sentences::drive::{has_barred_drive, without_slash};
+use crate::sentences::marks::Marks;
 use crate::sentences::pieces::{after, before, has_piece};
 use crate::sentences::scheme::{has_host_as_scheme, has_misspelled_scheme};
 use crate::sentences::template::{after_name, is_template};
@@ -50,19 +51,19 @@ const INTENTIONS: [Intention; 10] = [
 ];
 
 impl Intention {
-    // Whether a text shows it.
-    fn is_shown_by(self, text: &str) -> bool {
+    // Whether a text with these marks shows it.
+    fn is_shown_by(self, text: &str, marks: Marks) -> bool {
         match self {
             Intention::Markup => is_markup(text),
-            Intention::Template => is_template(text),
+            Intention::Template => is_template(text, marks),
             Intention::WindowsPath => is_windows_path(text.as_bytes()),
-            Intention::DriveLetter => has_barred_drive(text),
+            Intention::DriveLetter => marks.has(b'|') && has_barred_drive(text),
             Intention::TwoSchemes => has_two_schemes(text),
             Intention::HostAsScheme => has_host_as_scheme(text),
             Intention::Misspelled => has_misspelled_scheme(text),
-            Intention::LaterLink => has_later_link(text),
-            Intention::OldEscape => after(text, '%').split('%').any(|rest| is_old_escape(rest)),
-            Intention::CutEscape => after(text, '%').split('%').any(|rest| is_cut_escape(rest)),
+            Intention::LaterLink => marks.has(b' ') && has_later_link(text),
+            Intention::OldEscape => marks.has(b'%') && has_old_escape(after(text, '%')),
+            Intention::CutEscape => marks.has(b'%') && has_cut_escape(after(text, '%')),
         }
     }
 
@@ -89,9 +90,10 @@ impl Intention {
 
 /// What a text by itself shows.
 pub(crate) fn shown_intention(text: &str) -> Option<Intention> {
+    let marks = Marks::of(text);
     INTENTIONS
         .iter()
-        .find(|intention| intention.is_shown_by(text))
+        .find(|intention| intention.is_shown_by(text, marks))
         .copied()
 }
 
@@ -135,15 +137,24 @@ fn has_two_schemes(text: &str) -> bool {
 
 // Whether a text begins with such a scheme and then `://`, or only `//`.
 fn begins_link(text: &str) -> bool {
-    (is_link_scheme(before(text, ':')) && after(text, ':').starts_with("//"))
-        || (is_link_scheme(before(text, '/')) && after(text, '/').starts_with('/'))
+    let front = before(text, '/');
+    after(text, '/').starts_with('/') && is_link_scheme(front.strip_suffix(':').unwrap_or(front))
 }
 
 // Whether a space that isn't the first code point is before the beginning of a link.
 fn has_later_link(text: &str) -> bool {
-    text.as_bytes().contains(&b' ')
-        && !text.starts_with(' ')
+    !text.starts_with(' ')
         && (has_piece(text, " http://") || has_piece(text, " https://") || has_piece(text, " www."))
+}
+
+// Whether what follows the first `%` has the rest of an old escape, at its start or after another `%`.
+fn has_old_escape(after: &str) -> bool {
+    after.split('%').any(|rest| is_old_escape(rest))
+}
+
+// Whether what follows the first `%` has the rest of a cut escape, at its start or after another `%`.
+fn has_cut_escape(after: &str) -> bool {
+    after.split('%').any(|rest| is_cut_escape(rest))
 }
 
 // Whether `u` and a hex digit follow a `%`.

@@ -52,10 +52,12 @@ fn scheme_note(scheme: &str) -> &'static str {
 /// Whether a text begins with a host, `:` and the digits of a port.
 pub(crate) fn has_host_as_scheme(text: &str) -> bool {
     let host = before(text, ':');
-    let port = before_end(after(text, ':'));
-    (is_name(host, "localhost") || is_dotted_name(host))
-        && !port.is_empty()
-        && port.bytes().all(|b| b.is_ascii_digit())
+    (is_name(host, "localhost") || is_dotted_name(host)) && is_number(before_end(after(text, ':')))
+}
+
+// Whether a text is of digits, at least one.
+fn is_number(text: &str) -> bool {
+    !text.is_empty() && text.bytes().all(|b| b.is_ascii_digit())
 }
 
 // Whether a text is a name with a full stop, as most hosts and hardly any scheme have one, with a letter first.

@@ -2,22 +2,16 @@
 //! docs/FORMATS.md lists them, and a run compares that list with what the program answers.
 
 use crate::sentences::authority::authority_of;
+use crate::sentences::marks::Marks;
 use crate::sentences::pieces::{after, before, has_piece};
 use uv_model::is_name;
 
-/// Whether a text is a template: it has a sign of one. In code only those signs count that code doesn't have.
-pub(crate) fn is_template(text: &str) -> bool {
-    (has_sign_byte(text) && has_sign(text)) || has_named_port(text) || has_named_host(text)
-}
-
-// Whether a byte with which signs begin is in a text. Most links have none, and are looked through once.
-fn has_sign_byte(text: &str) -> bool {
-    text.bytes().any(|b| matches!(b, b'{' | b'%' | b'$' | b'<' | b'[' | b'|' | b'@'))
-}
-
-// Whether a text has a sign, which in code is one that code doesn't have.
-fn has_sign(text: &str) -> bool {
-    has_sure_sign(text) || (!is_code(before(text, ':')) && has_other_sign(text))
+/// Whether a text with these marks is a template: it has a sign of one. In code only those signs count that code doesn't
+/// have.
+pub(crate) fn is_template(text: &str, marks: Marks) -> bool {
+    has_sure_sign(text, marks)
+        || (has_other_sign(text, marks) && !is_code(before(text, ':')))
+        || has_named_authority(authority_of(text), marks)
 }
 
 // Whether a scheme is one whose URLs are code.
@@ -26,26 +20,24 @@ fn is_code(scheme: &str) -> bool {
 }
 
 // Whether a text has a sign that code doesn't have.
-fn has_sure_sign(text: &str) -> bool {
-    has_sure_brace(text)
-        || has_sure_tag(text)
-        || has_both(text, "[%", "%]")
-        || has_both(text, "*|", "|*")
+fn has_sure_sign(text: &str, marks: Marks) -> bool {
+    (marks.has(b'{') && has_sure_brace(text))
+        || (marks.has(b'<') && has_sure_tag(text))
+        || (marks.has(b'[') && has_both(text, "[%", "%]"))
+        || (marks.has(b'|') && has_both(text, "*|", "|*"))
 }
 
 // Whether a text has the braces of Jinja, Liquid, Go or Mustache, or those of shells and JavaScript.
 fn has_sure_brace(text: &str) -> bool {
-    text.as_bytes().contains(&b'{')
-        && (has_both(text, "{{", "}}") || has_both(text, "{%", "%}") || has_both(text, "${", "}"))
+    has_both(text, "{{", "}}") || has_both(text, "{%", "%}") || has_both(text, "${", "}")
 }
 
 // Whether a text has a tag of PHP, ERB, JSP or of what servers include.
 fn has_sure_tag(text: &str) -> bool {
-    text.as_bytes().contains(&b'<')
-        && (has_piece(text, "<?php")
-            || has_piece(text, "<?=")
-            || has_piece(text, "<!--#")
-            || has_both(text, "<%", "%>"))
+    has_piece(text, "<?php")
+        || has_piece(text, "<?=")
+        || has_piece(text, "<!--#")
+        || has_both(text, "<%", "%>")
 }
 
 // Whether a text has a mark and the one that closes it.
@@ -53,22 +45,16 @@ fn has_both(text: &str, mark: &str, end: &str) -> bool {
     has_piece(text, mark) && has_piece(text, end)
 }
 
-// Whether a text that isn't code has a sign that code may have.
-fn has_other_sign(text: &str) -> bool {
-    has_brace(text)
-        || has_percent_mark(after(text, '%'))
-        || after(text, '$')
-            .split('$')
-            .any(|name| begins_variable(name))
-        || after(text, '<').split('<').any(|name| is_tag(name))
-        || has_brackets(text)
-        || has_bar(text)
-        || has_at_mark(after(text, '@'))
-}
-
-// Whether it has `{`, which isn't the `{"` of JSON.
-fn has_brace(text: &str) -> bool {
-    text.as_bytes().contains(&b'{') && !has_piece(text, "{\"")
+// Whether a text has a sign that code may have.
+fn has_other_sign(text: &str, marks: Marks) -> bool {
+    // (`{"` is JSON's)
+    (marks.has(b'{') && !has_piece(text, "{\""))
+        || (marks.has(b'%') && has_percent_mark(after(text, '%')))
+        || (marks.has(b'$') && has_variable(after(text, '$')))
+        || (marks.has(b'<') && has_tag(after(text, '<')))
+        || (marks.has(b'[') && has_brackets(text))
+        || (marks.has(b'|') && has_bar(text))
+        || (marks.has(b'@') && has_at_mark(after(text, '@')))
 }
 
 // Whether what follows the first `%` belongs to a template.
@@ -100,9 +86,20 @@ fn is_escape(after: &str) -> bool {
     }
 }
 
+// Whether what follows the first `$` has the name of a variable in capitals or a command of shells, at its start or after
+// another `$`.
+fn has_variable(after: &str) -> bool {
+    after.split('$').any(|name| begins_variable(name))
+}
+
 // Whether what comes after a `$` is the name of a variable in capitals, or a command of shells.
 fn begins_variable(name: &str) -> bool {
     begins_with_capital(name) || name.starts_with('(')
+}
+
+// Whether what follows the first `<` has a tag, at its start or after another `<`.
+fn has_tag(after: &str) -> bool {
+    after.split('<').any(|name| is_tag(name))
 }
 
 // Whether a text is `%`, or a name and `>`, that no letter or digit follows.
@@ -154,15 +151,11 @@ fn is_byte_of_names(b: u8) -> bool {
     b.is_ascii_alphanumeric() || b == b'_' || b == b'.'
 }
 
-// Whether `port` is in place of the digits of one.
-fn has_named_port(text: &str) -> bool {
-    is_name(after(authority_of(text), ':'), "port")
-}
-
-// Whether a name in capitals with `_` is in place of a host.
-fn has_named_host(text: &str) -> bool {
-    let host = before(authority_of(text), ':');
-    host.as_bytes().contains(&b'_') && is_in_capitals(host)
+// Whether `port` is in place of an authority's port, or a name in capitals with `_` in place of its host.
+fn has_named_authority(authority: &str, marks: Marks) -> bool {
+    let (host, port) = authority.split_once(':').unwrap_or((authority, ""));
+    is_name(port, "port")
+        || (marks.has(b'_') && host.as_bytes().contains(&b'_') && is_in_capitals(host))
 }
 
 // Whether a name in capitals and a mark begin a text.
