@@ -184,6 +184,19 @@ class Words(Texts):
                 usage = "usage: urlcheck-documents [OPTIONS] FILE..\nurlcheck-documents: "
                 self.assertEqual((status, out, said), (2, "", usage + wanted + "\n"))
 
+    def test_options_of_other_tools(self):
+        """An option of other tools of which `urlcheck` says what to write here is known to this command too."""
+        with open(os.path.join(TOP, "crates/uv_messages/src/habits.rt"), encoding="utf-8") as file:
+            table = file.read()
+        names = [name for some in re.findall(r'"(--?[a-zA-Z][^"]*)"', table) for name in some.split() if name.startswith("-")]
+        self.assertGreater(len(names), 80)
+        self.write("a.html", "<a href='x y'>")
+        options = self.run_on("--help")[1].split()
+        for name in names:
+            with self.subTest(name):
+                said = self.run_on(name + "=1" if name.startswith("--") else name, "a.html")[2].splitlines()[-1]
+                self.assertTrue(said.startswith("urlcheck-documents: there is no option " + name + "; ") or name in options, said)
+
     def test_shortened_options(self):
         """An option is written whole: a beginning of its name isn't one."""
         self.write("a.html", "<a href='x y'>")

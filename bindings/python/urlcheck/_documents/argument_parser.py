@@ -6,6 +6,7 @@ import sys
 from typing import Iterable, List, NoReturn, Optional
 
 from .._streams import line_of, say, stop, tell
+from .habits import habit
 
 
 class Parser(argparse.ArgumentParser):
@@ -32,36 +33,8 @@ class Parser(argparse.ArgumentParser):
         actions = [it for it in self._actions if it.help != argparse.SUPPRESS]
         options = [it for action in actions for it in action.option_strings if it.startswith("--")]
         # (a value may follow an option of one letter at once, as in -j4)
-        habit = _OF_OTHERS.get(name) or _OF_OTHERS.get(name[:2])
-        self.error("there is no option {}{}".format(name, habit or _nearest(name, options)))
-
-
-_NO_FETCH = "; no link is fetched: only how it is written is checked"
-_OF_FOLDERS = "; a folder is read with all folders in it"
-_SHOWN = "; --format caret shows each link, and --version the version"
-_QUICK = "; each run reads all, and needs no cache"
-
-_OF_OTHERS = {
-    "--wide": "; write --profile wide",
-    "--output-format": "; write --format FORMAT",
-    "--json": "; write --format json",
-    "-j": "; write --jobs N",
-    "-v": _SHOWN,
-    "--verbose": _SHOWN,
-    "--all": "; pipe the links, which --list prints, into urlcheck lint --located --all -",
-    "-r": _OF_FOLDERS,
-    "-R": _OF_FOLDERS,
-    "--recursive": _OF_FOLDERS,
-    "--cache": _QUICK,
-    "--no-cache": _QUICK,
-    "--timeout": _NO_FETCH,
-    "--external": _NO_FETCH,
-    "--check-extern": _NO_FETCH,
-    "--offline": _NO_FETCH,
-    "--retries": _NO_FETCH,
-    "--watch": "; the language server checks while a document is edited",
-}
-"""What is said about options of ``urlcheck lint`` and of other checkers that are called something else here."""
+        said = habit(name) or habit(name[:2])
+        self.error("there is no option {}{}".format(name, "; " + said if said else _nearest(name, options)))
 
 
 def chosen(name: str, names: List[str], noun: str, meant: Optional[str] = None) -> str:
