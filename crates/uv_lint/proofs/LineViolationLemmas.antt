@@ -1,5 +1,7 @@
 -- What is found with a text, by the verdict on it.
-use Rattle.std.proofs.Common.{◌≡◌, ◌∙◌, ℕ, List, [], ◌∷◌, Option, Some, None, ap, chars, inl, inr, map, refl, sym, true}
+use Rattle.std.proofs.Common.{◌≡◌, ◌∙◌, ℕ, List, [], ◌∷◌, Option, Some, None, ap, arith, chars, inl, inr, map, refl, subst}
+use Rattle.std.proofs.Common.{sym, true}
+use Rattle.std.specs.Option.{option_and_then}
 use Rattle.std.specs.Str.{IsUtf8}
 use Rattle.std.proofs.lemmas.Bool.{false≢true}
 use Rattle.std.specs.Str.Lossy.{utf8_lossy}
@@ -19,8 +21,9 @@ use Rattle.uv_lint.specs.declared.setting.LineForm.{LineForm}
 use Rattle.uv_lint.specs.declared.setting.LineForm.TheVariants.{Plain, Located}
 use Rattle.uv_lint.specs.Findings.{IsRefusedFirst, IsUtf8WhereRefused, bytes_by, is_refused, text_by}
 use Rattle.uv_lint.specs.LineViolations.{AreBytesViolations, AreReported, AreTextViolations, AreViolationsBy}
-use Rattle.uv_lint.specs.LineViolations.{AreWholeViolations, Checks, FileSetting}
-use Rattle.uv_lint.specs.Located.{LocatedLink}
+use Rattle.uv_lint.specs.LineViolations.{AreViolations, AreWholeViolations, Checks, FileSetting, link_of}
+use Rattle.uv_lint.specs.Located.{LocatedLink, Run, link_in, run_of}
+use Rattle.uv_lint.specs.Report.{checked_of}
 
 -- nothing is found with a valid text
 reported_none : (extent : Extent) (profile : Profile) (base : Option Url) (text : List ℕ) (parts : Parts)
@@ -51,6 +54,21 @@ least_violation setting text refusal first refused = record {
   reported = rw first refl;
   are = refl;
 }
+
+-- nothing is found with a line that isn't checked
+pub unchecked_violations : (setting : FileSetting) (line : Option (List ℕ)) → checked_of line ≡ 0
+    → AreViolations setting line []
+unchecked_violations setting None none = absurd (omega (arith, none))
+unchecked_violations setting (Some (x ∷ xs)) none = absurd (omega (arith, none))
+unchecked_violations setting (Some []) none = of_form setting.form
+  where
+    no_link : (run : Option Run) → option_and_then (link_in []) run ≡ None
+    no_link None = refl
+    no_link (Some run) = refl
+
+    of_form : (form : LineForm) → AreViolationsBy setting (link_of form (Some [])) (Some []) []
+    of_form Plain = refl
+    of_form Located = subst (λ l. AreViolationsBy setting l (Some []) []) (sym (no_link (run_of []))) refl
 
 -- ---- the text is refused by the first violation
 

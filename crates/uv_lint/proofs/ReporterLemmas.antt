@@ -15,7 +15,8 @@ use Rattle.uv_lint.specs.LineViolations.{AreViolations, link_of}
 use Rattle.uv_lint.specs.Located.{LocatedLink}
 use Rattle.uv_lint.specs.Report.{checked_line, line_text, reported_by}
 use Rattle.uv_lint.specs.ReportedView.{place_view, shown_at}
-use Rattle.uv_lint.specs.Reporting.{Begins, HasBegun, HasBegunLine, HasReportedLine, Linting, Says, with_line}
+use Rattle.uv_lint.specs.Reporting.{Begins, HasBegun, HasBegunLine, HasReported, HasReportedLine, Linting, Says}
+use Rattle.uv_lint.specs.Reporting.{next_text, with_line}
 
 -- what follows from what was appended holds where memory was found
 pub on_appended : (answer : Result (Unit {0}) AllocError) (old more new : List ℕ) (B : Type 0)
@@ -70,66 +71,88 @@ found_in before line found messages mended are told is = record {
       (reported_text before.setting.file (before.lines + 1) line (link_of before.setting.form line)) is;
 }
 
--- what was said of a line that was checked so, when these lines came before
-pub adds_line : (before now after : Linting) (lines : ℕ) (line checked : Option (List ℕ))
-    (found reported counted : List LineViolation) (waited : List ℕ) (a b : Option (List ℕ)) (waits : List ℕ)
-    → before.lines ≡ lines → checked ≡ checked_line lines line → AreViolations before.setting checked found
-    → reported ≡ found → HasReportedLine before checked reported waited a b waits
-    → now ≡ before → counted ≡ found → after ≡ with_line now checked counted
+-- what was said of what is shown of a text was said of the line that is there
+pub line_reported : (before : Linting) (line : Option (List ℕ)) (place : Place) (text : List ℕ)
+    (violations : List LineViolation) (waited : List ℕ) (a b : Option (List ℕ)) (waits : List ℕ)
+    → place_view place ≡ next_text before line → text ≡ shown (option_copied place.bytes)
+    → HasReported before (shown_at place text) violations waited a b waits
+    → HasReported before (next_text before line) violations waited a b waits
+line_reported before line place text violations waited a b waits stands is said =
+    subst (λ r. HasReported before r violations waited a b waits) (ap (λ t. shown_at place t) is ∙ stands) said
+
+-- and so what was said first
+pub line_begun : (before : Linting) (line : Option (List ℕ)) (place : Place) (text : List ℕ)
+    (violations : List LineViolation) (parts : List ℕ)
+    → place_view place ≡ next_text before line → text ≡ shown (option_copied place.bytes)
+    → AreViolations before.setting line violations → HasBegun before (shown_at place text) violations parts
+    → HasBegunLine before line parts
+line_begun before line place text violations parts stands is are begun =
+    inr (violations, are, subst (λ r. HasBegun before r violations parts) (ap (λ t. shown_at place t) is ∙ stands) begun)
+
+-- nothing is said of a line with which nothing is wrong
+pub fine_line : (before after : Linting) (line : Option (List ℕ)) (waited : List ℕ) (a : Option (List ℕ))
+    → AreViolations before.setting line [] → after ≡ with_line before line []
+    → HasReportedLine before line waited a after waited a
+fine_line before after line waited a are counts = record {
+  violations = [];
+  found = are;
+  said = (None, refl, ([], tt {0}, subst (λ t. Passes t a a waited) (sym (append-nil waited)) (passes_none waited a)));
+  left = counts;
+}
+
+-- ---- a line as it is checked, when these lines came before
+
+-- what was said of it
+line_added : (before after : Linting) (line : Option (List ℕ)) (waited : List ℕ) (a b : Option (List ℕ))
+    (waits : List ℕ) → HasReportedLine before (checked_line before.lines line) waited a after waits b
     → Adds Says (λ r. r.lines) before waited a line after waits b
-adds_line before now after lines line checked found reported counted waited a b waits place checks are is_reported said
-    kept is_counted counts =
-    let same : checked ≡ checked_line before.lines line = checks ∙ ap (λ n. checked_line n line) (sym place) in
-    let left : after ≡ with_line before (checked_line before.lines line) found =
-    counts ∙ rw (kept, same, is_counted) refl in
-    let has : HasReportedLine before (checked_line before.lines line) found waited a b waits =
-    subst (λ j. HasReportedLine before j found waited a b waits) same
-    (subst (λ vs. HasReportedLine before checked vs waited a b waits) is_reported said) in
-    let findings : Findings = record { violations = found; messages = has.2.0; mended = has.0 } in
+line_added before after line waited a b waits is =
+    let findings : Findings =
+    record { violations = is.violations; messages = is.said.2.0; mended = is.said.0 } in
     record {
       said = line_text before.setting (before.lines + 1) (checked_line before.lines line) before.is_first findings;
       reported = record {
         findings = findings;
-        found = found_in before (checked_line before.lines line) found has.2.0 has.0
-            (subst (λ j. AreViolations before.setting j found) same are) has.2.1 has.1;
+        found = found_in before (checked_line before.lines line) is.violations is.said.2.0 is.said.0 is.found
+            is.said.2.1 is.said.1;
         written = refl;
-        left = left;
+        left = is.left;
       };
-      count = ap (λ r. r.lines) left;
-      passes = has.2.2;
+      count = ap (λ r. r.lines) is.left;
+      passes = is.said.2.2;
     }
 
--- what was said first of what is shown of a text was said of the line that is there
-pub line_begun : (before : Linting) (line : Option (List ℕ)) (place : Place) (text : List ℕ)
-    (violations : List LineViolation) (parts : List ℕ)
-    → place_view place ≡ reported_by before.setting.file (before.lines + 1) line (link_of before.setting.form line)
-    → text ≡ shown (option_copied place.bytes) → HasBegun before (shown_at place text) violations parts
-    → HasBegunLine before line violations parts
-line_begun before line place text violations parts stands is begun =
-    subst (λ r. HasBegun before r violations parts) (ap (λ t. shown_at place t) is ∙ stands) begun
+pub adds_line : {E : Type 0} (answer : Result (Unit {0}) E) (before after : Linting) (lines : ℕ)
+    (line checked : Option (List ℕ)) (waited : List ℕ) (a b : Option (List ℕ)) (waits : List ℕ)
+    → before.lines ≡ lines → checked ≡ checked_line lines line
+    → OnOk answer (HasReportedLine before checked waited a after waits b)
+    → OnOk answer (Adds Says (λ r. r.lines) before waited a line after waits b)
+adds_line answer before after lines line checked waited a b waits place checks said =
+    let same : checked ≡ checked_line before.lines line = checks ∙ ap (λ n. checked_line n line) (sym place) in
+    on_ok answer (HasReportedLine before checked waited a after waits b)
+    (Adds Says (λ r. r.lines) before waited a line after waits b)
+    (λ is. line_added before after line waited a b waits
+    (subst (λ j. HasReportedLine before j waited a after waits b) same is)) said
 
 -- what was said first of it
-begins_line : (before : Linting) (line : Option (List ℕ)) (found : List LineViolation) (parts : List ℕ)
-    → AreViolations before.setting (checked_line before.lines line) found
-    → HasBegunLine before (checked_line before.lines line) found parts → AreFirstParts Begins before line parts
-begins_line before line found parts are (inl none) = inl none
-begins_line before line found parts are (inr begun) = inr (record {
+begins_line : (before : Linting) (line : Option (List ℕ)) (parts : List ℕ)
+    → HasBegunLine before (checked_line before.lines line) parts → AreFirstParts Begins before line parts
+begins_line before line parts (inl none) = inl none
+begins_line before line parts (inr (found, are, inl none)) = inl none
+begins_line before line parts (inr (found, are, inr begun)) = inr (record {
   findings = record { violations = found; messages = begun.2.0; mended = begun.0 };
   found = found_in before (checked_line before.lines line) found begun.2.0 begun.0 are begun.2.1 begun.1;
   count = begun.2.2.0;
   written = begun.2.2.1;
 })
 
--- what a fault within a line leaves, which was checked so when these lines came before
-pub leaves_line : {F : Type 0} (e : ReportFault F) (before : Linting) (lines : ℕ) (line checked : Option (List ℕ))
-    (found reported : List LineViolation) (waited : List ℕ) (a b : Option (List ℕ)) (waits : List ℕ)
-    → before.lines ≡ lines → checked ≡ checked_line lines line → AreViolations before.setting checked found
-    → reported ≡ found → LeavesParts (HasBegunLine before checked reported) e waited a waits b
-    → LeavesParts (AreFirstParts Begins before line) e waited a waits b
-leaves_line e before lines line checked found reported waited a b waits place checks are is_reported left =
+-- what a fault within it leaves
+pub leaves_line : {F : Type 0} (answer : Result (Unit {0}) (ReportFault F)) (before : Linting) (lines : ℕ)
+    (line checked : Option (List ℕ)) (waited : List ℕ) (a b : Option (List ℕ)) (waits : List ℕ)
+    → before.lines ≡ lines → checked ≡ checked_line lines line
+    → IfErr answer (λ e. LeavesParts (HasBegunLine before checked) e waited a waits b)
+    → IfErr answer (λ e. LeavesParts (AreFirstParts Begins before line) e waited a waits b)
+leaves_line answer before lines line checked waited a b waits place checks left =
     let same : checked ≡ checked_line before.lines line = checks ∙ ap (λ n. checked_line n line) (sym place) in
-    LeavesParts-map (HasBegunLine before (checked_line before.lines line) found) (AreFirstParts Begins before line) e
-    waited a waits b
-    (λ parts. begins_line before line found parts (subst (λ j. AreViolations before.setting j found) same are))
-    (subst (λ j. LeavesParts (HasBegunLine before j found) e waited a waits b) same
-    (subst (λ vs. LeavesParts (HasBegunLine before checked vs) e waited a waits b) is_reported left))
+    parts_left answer (HasBegunLine before checked) (AreFirstParts Begins before line) waited a waits b
+    (λ parts begun. begins_line before line parts (subst (λ j. HasBegunLine before j parts) same begun)) left

@@ -16,9 +16,6 @@ use Rattle.uv_report.specs.declared.places.column.Columns.{Columns}
 use Rattle.uv_sentences.specs.declared.line_violation.LineViolation.{LineViolation}
 use Rattle.uv_sentences.specs.declared.line_violation.LineViolation.TheVariants.{Refused, NotUtf8, TooLong, NotLocated}
 use Rattle.uv_report.specs.declared.format.Format.{Format}
-use Rattle.uv_lint.specs.declared.line_violations.LineViolations.{LineViolations}
-use Rattle.uv_lint.specs.declared.line_violations.LineViolations.TheVariants.{Nothing, One}
-use Rattle.uv_lint.specs.declared.line_violations.LineViolations.TheVariants as lines
 use Rattle.uv_lint.specs.declared.setting.LineForm.{LineForm}
 use Rattle.uv_lint.specs.declared.setting.LineForm.TheVariants.{Plain, Located}
 use Rattle.uv_lint.specs.declared.setting.LintSetting.{LintSetting}
@@ -46,12 +43,6 @@ file_setting file setting = record {
   columns = setting.columns;
   form = setting.form;
 }
-
--- the violations that are told of a line, in their order
-abbrev pub violations_in : LineViolations → List LineViolation
-violations_in Nothing = []
-violations_in (One violation) = violation ∷ []
-violations_in (lines.All violations) = violations.items
 
 -- there is no refusal and the text is valid, or the text is refused by the first of them
 abbrev pub Checks : Profile → Option Url → List ℕ → List Refusal → Type 0
@@ -112,3 +103,9 @@ AreViolationsBy setting None (Some (x ∷ xs)) violations = AreWholeViolations s
 -- what is wrong with a line of the file, and with its link where the line says where that is
 abbrev pub AreViolations : FileSetting → Option (List ℕ) → List LineViolation → Type 0
 AreViolations setting line violations = AreViolationsBy setting (link_of setting.form line) line violations
+
+-- what is wrong with a line of the file is what is wrong with this text
+abbrev pub IsCheckedBy : FileSetting → Option (List ℕ) → List ℕ → Type 0
+IsCheckedBy setting line text =
+    (violations : List LineViolation) → AreTextViolations setting (chars text) violations
+    → AreViolations setting line violations

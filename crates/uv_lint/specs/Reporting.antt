@@ -4,7 +4,7 @@ use Rattle.uv_sentences.specs.declared.line_violation.LineViolation.{LineViolati
 use Rattle.uv_lines.specs.Waiting.{Passes}
 use Rattle.uv_lint.specs.declared.counts.LintCounts.{LintCounts}
 use Rattle.uv_lint.specs.Findings.{AreFindings, AreMessages, Findings, IsMended, MendedText}
-use Rattle.uv_lint.specs.LineViolations.{FileSetting, link_of}
+use Rattle.uv_lint.specs.LineViolations.{AreViolations, FileSetting, link_of}
 use Rattle.uv_lint.specs.Report.{ReportedText, checked_line, counted, first_found, is_still_first, line_text}
 use Rattle.uv_lint.specs.Report.{reported_by, text_diagnostics}
 
@@ -47,19 +47,24 @@ HasBegun before reported violations parts =
     × ((count : ℕ) × (parts ≡ text_diagnostics before.setting reported before.is_first
     (first_found count (record { violations = violations; messages = messages; mended = mended }))))))
 
--- the diagnostics on the next line, of which this was found, came to what waited, with what to write in its place
-abbrev pub HasReportedLine : Linting → Option (List ℕ) → List LineViolation → List ℕ → Option (List ℕ)
-    → Option (List ℕ) → List ℕ → Type 0
-HasReportedLine before line violations waited old new waits =
-    HasReported before
-    (reported_by before.setting.file (before.lines + 1) line (link_of before.setting.form line)) violations waited old
-    new waits
+-- what the diagnostics on the next line tell, which is checked so
+abbrev pub next_text : Linting → Option (List ℕ) → ReportedText
+next_text before line =
+    reported_by before.setting.file (before.lines + 1) line (link_of before.setting.form line)
 
--- what is reported of the next line has begun
-abbrev pub HasBegunLine : Linting → Option (List ℕ) → List LineViolation → List ℕ → Type 0
-HasBegunLine before line violations parts =
-    HasBegun before
-    (reported_by before.setting.file (before.lines + 1) line (link_of before.setting.form line)) violations parts
+-- the next line, which is checked so, is counted, and the diagnostics on it came to what waited
+pub record HasReportedLine (before : Linting) (line : Option (List ℕ)) (waited : List ℕ) (old : Option (List ℕ))
+    (after : Linting) (waits : List ℕ) (new : Option (List ℕ)) : Type 0 where
+  pub violations : List LineViolation
+  pub found : AreViolations before.setting line violations
+  pub said : HasReported before (next_text before line) violations waited old new waits
+  pub left : after ≡ with_line before line violations
+
+-- nothing was reported of the next line, which is checked so, or what is reported of it has begun
+abbrev pub HasBegunLine : Linting → Option (List ℕ) → List ℕ → Type 0
+HasBegunLine before line parts =
+    (parts ≡ []) ⊎ ((violations : List LineViolation) × AreViolations before.setting line violations
+    × HasBegun before (next_text before line) violations parts)
 
 -- the diagnostics on the next line, and what it leaves
 pub record Says (before : Linting) (line : Option (List ℕ)) (text : List ℕ) (after : Linting) : Type 0 where

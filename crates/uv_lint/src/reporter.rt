@@ -1,5 +1,5 @@
 //! What reports on the lines of a file.
-ghost use Rattle.std.specs.Prelude.{◌≡◌, ◌+◌, ◌-◌, ◌^◌, ◌<◌, [], IfErr, OnOk, if◌then◌else◌, option_copied};
+ghost use Rattle.std.specs.Prelude.{◌≡◌, ◌+◌, ◌-◌, ◌^◌, ◌<◌, [], IfErr, OnErr, OnOk, if◌then◌else◌, option_copied};
 ghost use Rattle.std.specs.Prelude.{option_map};
 ghost use Rattle.uv_lines.specs.Fault.{failed_within};
 ghost use Rattle.uv_lines.specs.Line.{bytes_of};
@@ -117,8 +117,8 @@ impl<'a> LintReporter<'a> {
         self.setting.form
     }
 
-    // Says the diagnostics on the next line, if any.
-    fn report_line<W: Sink>(
+    /// Says the diagnostics on the next line, of which this was found, and counts it.
+    pub(crate) fn report_line<W: Sink>(
         &mut self,
         alloc: Global,
         line: Option<&[u8]>,
@@ -129,28 +129,29 @@ impl<'a> LintReporter<'a> {
         requires few { self.old.lines < 2 ^ 64 - 1 }
         requires writes { W.failed writer.old < 2 ^ 64 - 1 }
         requires found { AreViolations self.old.setting (option_copied line) violations.now }
-        ensures text { OnOk result (HasReportedLine self.old (option_copied line.entry) violations.now
-            text.old.items (W.contents writer.old) (W.contents writer.new) text.new.items) }
-        ensures same { self.new ≡ self.old }
+        ensures text { OnOk result (HasReportedLine self.old (option_copied line.entry) text.old.items
+            (W.contents writer.old) self.new text.new.items (W.contents writer.new)) }
+        ensures same { OnErr result (self.new ≡ self.old) }
         ensures quiet { OnOk result (W.failed writer.new ≡ W.failed writer.old) }
-        ensures fault { IfErr result (λ e. LeavesParts (HasBegunLine self.old (option_copied line.entry)
-            violations.now) e text.old.items (W.contents writer.old) text.new.items (W.contents writer.new)) }
+        ensures fault { IfErr result (λ e. LeavesParts (HasBegunLine self.old (option_copied line.entry)) e
+            text.old.items (W.contents writer.old) text.new.items (W.contents writer.new)) }
         ensures failed { IfErr result (λ e. W.failed writer.new ≡ W.failed writer.old + failed_within e) }
     {
-        if violations.is_empty() {
-            return Ok(());
-        }
         let link = link_of(self.setting.form, line);
         let place = Place::of(self.file, self.lines + 1, line, link);
         let Ok(shown) = shown_text(alloc, violations, place.bytes) else {
             return Err(ReportFault::Reporter(AllocError));
         };
-        self.report_text(alloc, place, shown.as_str(), violations, text, writer)
+        match self.report_text(alloc, place, shown.as_str(), violations, text, writer) {
+            Ok(()) => {
+                self.count(line, violations);
+                Ok(())
+            }
+            Err(fault) => Err(fault),
+        }
     }
 
-    // Says the diagnostics on what is shown of a text that is there, with what to write in its place. It is never inlined,
-    // so that a valid line takes no room for them.
-    #[inline(never)]
+    // Says the diagnostics on what is shown of a text that is there, with what to write in its place.
     fn report_text<'x, W: Sink>(
         &mut self,
         alloc: Global,
@@ -193,9 +194,9 @@ impl<'a> LintReporter<'a> {
         )
     }
 
-    // Counts a line of which this was found.
+    /// Counts a line of which this was found.
     #[inline(always)]
-    fn count(&mut self, line: Option<&[u8]>, violations: &[LineViolation])
+    pub(crate) fn count(&mut self, line: Option<&[u8]>, violations: &[LineViolation])
         requires { self.old.lines < 2 ^ 64 - 1 }
         ensures { self.new ≡ with_line self.old (option_copied line.entry) violations.now }
     {
@@ -231,16 +232,11 @@ impl<'a> Reporter for LintReporter<'a> {
         writer: &mut W,
     ) -> Result<(), ReportFault<AllocError>> {
         let line = checked_line(self.lines, line);
-        let Ok(violations) = self.violations(alloc, line) else {
-            return Err(ReportFault::Reporter(AllocError));
-        };
-        let line = line_bytes(line);
-        match self.report_line(alloc, line, violations.as_slice(), text, writer) {
-            Ok(()) => {
-                self.count(line, violations.as_slice());
-                Ok(())
+        match self.plain_text(line) {
+            Some(plain) => {
+                self.report_checked(alloc, Some(plain.as_bytes()), plain, text, writer)
             }
-            Err(fault) => Err(fault),
+            None => self.report_other(alloc, line, text, writer),
         }
     }
 
@@ -255,8 +251,8 @@ impl<'a> Reporter for LintReporter<'a> {
     }
 }
 
-// Whether a line is checked: an empty one isn't.
-fn is_checked(line: Option<&[u8]>) -> bool
+/// Whether a line is checked: an empty one isn't.
+pub(crate) fn is_checked(line: Option<&[u8]>) -> bool
     ensures { checked_of (option_copied line.entry) ≡ (if result then 1 else 0) }
 {
     match line {
@@ -276,9 +272,8 @@ fn checked_line(before: u64, line: Option<Line<'_>>) -> Option<Line<'_>>
     }
 }
 
-// The bytes of a line that isn't too long.
-#[inline(always)]
-fn line_bytes(line: Option<Line<'_>>) -> Option<&[u8]>
+/// The bytes of a line that isn't too long.
+pub(crate) fn line_bytes(line: Option<Line<'_>>) -> Option<&[u8]>
     ensures { option_copied result ≡ option_map bytes_of line.entry }
 {
     match line {

@@ -3,10 +3,10 @@ use Rattle.std.proofs.Common.{◌≡◌, ◌+◌, ◌∙◌, option_copied, ap, 
 use Rattle.uv_lint.specs.Findings.{IsRefusedFirst, IsUtf8WhereRefused, bytes_by, text_by}
 use Rattle.uv_lint.specs.LineViolations.{link_of}
 use Rattle.uv_lint.specs.Report.{reported_by}
-use Rattle.uv_lint.specs.ReportedView.{place_view}
-use Rattle.uv_lint.specs.Reporting.{HasBegunLine}
+use Rattle.uv_lint.specs.ReportedView.{place_view, shown_at}
+use Rattle.uv_lint.specs.Reporting.{HasBegun, HasBegunLine, next_text, with_line}
 use Rattle.uv_lint.proofs.LineViolationLemmas.{read_line, refused_line}
-use Rattle.uv_lint.proofs.ReporterLemmas.{line_begun, parts_left, reported_text}
+use Rattle.uv_lint.proofs.ReporterLemmas.{LeavesParts-map, line_begun, line_reported, reported_text}
 use Rattle.uv_lint.proofs.reporter.LintReporter.report_line.Goals as goal
 
 -- where a rule is violated, they are UTF-8
@@ -38,19 +38,38 @@ report_text-requires-clause-refused g c =
     subst (λ t. IsRefusedFirst before.setting.profile before.setting.base c.args.violations.now t) (sym is)
     (refused_line before.setting link line c.args.violations.now c.requires.found)
 
+pub returns-in-Ok-report_text-clause-text : goal.returns-in-Ok-report_text-clause-text
+returns-in-Ok-report_text-clause-text g c =
+    let before = c.args.self.now in
+    let line = option_copied c.args.line in
+    let violations = c.args.violations.now in
+    let inside = c.self.inside in
+    let stands : place_view c.of-place.result ≡ next_text before line =
+    c.of-place.ensures.place
+    ∙ ap (λ link. reported_by inside.file.now (inside.lines + 1) line link) c.link_of-link.ensures
+    ∙ ap (λ r. next_text r line) c.self.view_is in
+    record {
+      violations = violations;
+      found = c.requires.found;
+      said = line_reported before line c.of-place.result c.as_str.result.now violations c.args.text.now.items
+          (g.W.Sink.contents c.args.writer.now) (g.W.Sink.contents c.report_text.new.writer)
+          c.report_text.new.text.items stands (c.as_str.ensures.value ∙ c.in-Ok.ensures)
+          c.in-Ok-report_text.ensures.text;
+      left = c.count.ensures ∙ ap (λ r. with_line r line violations) c.report_text.ensures.same;
+    }
+
 pub returns-clause-fault : goal.returns-clause-fault
 returns-clause-fault g c =
     let before = c.args.self.now in
     let line = option_copied c.args.line in
     let violations = c.args.violations.now in
     let inside = c.self.inside in
-    let stands : place_view c.of-place.result
-    ≡ reported_by before.setting.file (before.lines + 1) line (link_of before.setting.form line) =
+    let stands : place_view c.of-place.result ≡ next_text before line =
     c.of-place.ensures.place
     ∙ ap (λ link. reported_by inside.file.now (inside.lines + 1) line link) c.link_of-link.ensures
-    ∙ ap (λ r. reported_by r.setting.file (r.lines + 1) line (link_of r.setting.form line)) c.self.view_is in
-    parts_left c.report_text.result _ (HasBegunLine before line violations) c.args.text.now.items
-    (g.W.Sink.contents c.args.writer.now) c.report_text.new.text.items
-    (g.W.Sink.contents c.report_text.new.writer)
+    ∙ ap (λ r. next_text r line) c.self.view_is in
+    LeavesParts-map (HasBegun before (shown_at c.of-place.result c.as_str.result.now) violations)
+    (HasBegunLine before line) c.in-Err.fault c.args.text.now.items (g.W.Sink.contents c.args.writer.now)
+    c.report_text.new.text.items (g.W.Sink.contents c.report_text.new.writer)
     (λ parts begun. line_begun before line c.of-place.result c.as_str.result.now violations parts stands
-    (c.as_str.ensures.value ∙ c.in-Ok.ensures) begun) c.report_text.ensures.fault
+    (c.as_str.ensures.value ∙ c.in-Ok.ensures) c.requires.found begun) c.in-Err.ensures.fault

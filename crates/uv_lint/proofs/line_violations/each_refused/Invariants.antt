@@ -1,7 +1,7 @@
 -- The violations so far, and those of the refusals that are left.
 use Rattle.std.proofs.Common.{◌≡◌, ◌++◌, drop, map}
 use Rattle.uv_sentences.specs.declared.line_violation.LineViolation.TheVariants.{Refused}
-use Rattle.uv_lint.proofs.line_violations.LineViolations.each_refused.Given as goal
+use Rattle.uv_lint.proofs.line_violations.each_refused.Given as goal
 
 abbrev pub invariant-loop-refusal : goal.invariant-loop-refusal
 invariant-loop-refusal l =
