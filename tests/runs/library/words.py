@@ -10,6 +10,7 @@ import unittest
 
 from room import PROGRAM, TOP, Texts
 from urlcheck import RULES
+from urlcheck._documents.habits import habit
 
 
 class Words(Texts):
@@ -190,12 +191,10 @@ class Words(Texts):
             table = file.read()
         names = [name for some in re.findall(r'"(--?[a-zA-Z][^"]*)"', table) for name in some.split() if name.startswith("-")]
         self.assertGreater(len(names), 80)
-        self.write("a.html", "<a href='x y'>")
-        options = self.run_on("--help")[1].split()
         for name in names:
-            with self.subTest(name):
-                said = self.run_on(name + "=1" if name.startswith("--") else name, "a.html")[2].splitlines()[-1]
-                self.assertTrue(said.startswith("urlcheck-documents: there is no option " + name + "; ") or name in options, said)
+            if not habit(name):
+                with self.subTest(name):
+                    self.assertNotIn("there is no option", self.run_on(name)[2])
 
     def test_shortened_options(self):
         """An option is written whole: a beginning of its name isn't one."""
