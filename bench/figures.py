@@ -79,6 +79,7 @@ SENTENCES = (
     ("docs/SPEED.md", "| Rattle | `check` of a link, as in documents | `can_parse` of Ada 3.4.4, by instructions | {mixed} |"),
     ("docs/SPEED.md", "| C | the same | the same | {c} |"),
     ("docs/SPEED.md", "A plain link takes at most {plain_lint} in `lint`, with 5 % of slack."),
+    ("docs/SPEED.md", "`check` of a link takes at most {text_check}."),
     ("docs/SPEED.md", "{code_point_lint} in `gnu`, {code_point_caret} in `caret`, {code_point_json} in JSON and {code_point_sarif} in SARIF."),
     ("docs/SPEED.md", "which takes {code_point_mend} in `mend`."),
 )
