@@ -30,6 +30,10 @@ gcc -std=c99 -O2 -I "$include" ../library/answers.c "$library/lib/liburlcheck.a"
 "$room/answers_c" "$cases" mended >"$mended"
 python3 vectors.py "$answers" "$top"/tests/vectors/*.json
 
+# A library that answers what its texts say, for answers that no text has.
+told=$room/told.so
+gcc -std=c99 -Wall -Wextra -Werror -O2 -shared -fPIC -I "$include" told.c -o "$told"
+
 # here WHAT TOOL : whether a tool is installed, otherwise says what is left out
 here() {
     command -v "$2" >/dev/null || { left_out languages "$1" "$2 is not installed"; return 1; }

@@ -16,7 +16,7 @@ if here Rust cargo && with Rust librust-serde-json-dev compgen -G "$registry/ser
     export CARGO_TARGET_DIR=$room/target URLCHECK_LIB_DIR=$library/lib RUST_BACKTRACE=0
     copied rust
     mkdir -p "$room/rust/examples"
-    cp answers.rs "$room/rust/examples/"
+    cp answers.rs told.rs "$room/rust/examples/"
     answers_rust=$room/target/debug/examples/answers
     quiet 'cargo build' build_rust
     answering Rust "$answers_rust"
@@ -55,13 +55,20 @@ if here Rust cargo && with Rust librust-serde-json-dev compgen -G "$registry/ser
         quiet 'cargo by pkg-config' env -u URLCHECK_LIB_DIR CARGO_TARGET_DIR="$room/shared" \
             cargo build --offline --example answers
         quiet 'the shared library' same "$room/shared/debug/examples/answers"
+        quiet 'cargo for told.rs' env -u URLCHECK_LIB_DIR CARGO_TARGET_DIR="$room/shared" cargo build --offline --example told
+        quiet 'what the crate says of odd answers' env LD_PRELOAD="$told" "$room/shared/debug/examples/told"
         ! URLCHECK_LIB_DIR=$room/rust cargo build --offline >"$room/said" 2>&1 || fail 'a folder without a library'
-        grep -q 'URLCHECK_LIB_DIR: .* has no liburlcheck' "$room/said" || fail 'no word on a folder without a library'
+        grep -qFx "  URLCHECK_LIB_DIR: $room/rust has no liburlcheck" "$room/said" || fail 'no word on a folder without a library'
         if env -u URLCHECK_LIB_DIR PKG_CONFIG_PATH= cargo build --offline >"$room/said" 2>&1; then
             pkg-config --exists urlcheck || fail 'no library at all'
         else
-            grep -q 'pkg-config has no liburlcheck 0.4' "$room/said" || fail 'no word on a library that is missing'
+            grep -qF "  URLCHECK_LIB_DIR isn't set, and pkg-config has no liburlcheck 0.4: " "$room/said" ||
+                fail 'no word on a library that is missing'
         fi
+        ! env -i PATH=/nonexistent "$(compgen -G "$room/shared/debug/build/urlcheck-*/build-script-build" | head -n 1)" \
+            >"$room/said" 2>&1 || fail 'a library is found without pkg-config'
+        grep -qFx "URLCHECK_LIB_DIR isn't set, and pkg-config can't be run: No such file or directory (os error 2)" \
+            "$room/said" || fail 'no word on pkg-config'
     )
     mkdir -p "$room/guide_rust/src"
     guide rust rust guide_rust src/main.rs
