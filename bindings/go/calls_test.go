@@ -70,8 +70,25 @@ func TestRefusal(t *testing.T) {
 	if said := refused.Message(""); said != CodePoint.Sentence() {
 		t.Errorf("of another text it says %q", said)
 	}
-	if said := err.Error(); said != "urlcheck: refused at place 11: "+CodePoint.Sentence()+" [code-point]" {
-		t.Errorf("the error is %q", said)
+}
+
+func TestSentences(t *testing.T) {
+	_, refused := Check("http://h/\u00e9 b")
+	_, noUTF8 := Check("http://h/\u00e9\xff")
+	_, noProfile := By(Profile(3)).Check("http://h/")
+	_, noName := ParseProfile("narrow")
+	for _, one := range []struct {
+		err    error
+		wanted string
+	}{
+		{refused, "urlcheck: refused at place 10: this code point is not allowed in a URL [code-point]"},
+		{noUTF8, "urlcheck: the text isn't UTF-8 from byte 11 on"},
+		{noProfile, "urlcheck: no such profile"},
+		{noName, "urlcheck: no such profile"},
+	} {
+		if one.err == nil || one.err.Error() != one.wanted {
+			t.Errorf("%v in place of %q", one.err, one.wanted)
+		}
 	}
 }
 

@@ -18,6 +18,8 @@ if here Go go; then
         quiet 'go vet' go vet ./...
         quiet 'the tests of the module' go test ./...
         quiet 'the tests under the race detector' env GODEBUG=cgocheck=2 go test -race .
+        cp "$top/tests/runs/languages/told_test.go" .
+        quiet 'what the module says without memory' go test -exec "env LD_PRELOAD=$told" -run TestWithoutMemory -count 1 .
         [ -z "$(gofmt -l .)" ] || fail "gofmt: $(gofmt -l .)"
     )
     for edit in 's/int(found.place), int(found.byte_place);/int(found.byte_place), int(found.place);/' \
