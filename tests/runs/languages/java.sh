@@ -29,10 +29,18 @@ build_java() {
 # build_more : its class for Java 22, its tests, and the answers
 build_more() {
     mapfile -t files < <(sources test)
-    javac -Xlint:all -Werror -cp "$room/classes/8:$junit" -d "$room/classes/tests" "${files[@]}" Answers.java
+    javac -Xlint:all -Werror -cp "$room/classes/8:$junit" -d "$room/classes/tests" "${files[@]}" Answers.java Told.java
     [ -n "$jdk" ] || return 0
     mapfile -t files < <(sources main/java22)
     "$jdk/bin/javac" --release 22 -Xlint:all -Werror -cp "$room/classes/8" -d "$room/classes/22" "${files[@]}"
+}
+
+# says_told REASON COMMAND.. : what the package says of libraries that aren't its own, by a command that runs a class; the
+# reason is why one of something else isn't, unless JNA says that
+says_told() {
+    local other
+    other=$(gcc -print-file-name=libm.so.6)
+    quiet 'what the package says of other libraries' "${@:2}" Told "$room/none.so" "$other" "$room/old.so" "$told" "$1"
 }
 
 # with_java FOLDER CLASSES WORD.. : runs a class by the Java of a folder, over these classes
@@ -53,6 +61,8 @@ if here Java javac && with Java 'libjna-java or junit4' test -e $jna -a -e "${ju
     answering "Java $(java_version java) over JNA" with_java '' "$jna" Answers
     quiet 'the tests of the package over JNA' with_java '' "$jna" org.junit.runner.JUnitCore \
         example.yuccaeave.urlcheck.UrlCheckTest
+    gcc -std=c99 -shared -fPIC -I "$include" -DVERSION=399 told.c -o "$room/old.so"
+    says_told '' with_java '' "$jna"
     mapfile -t files < <(sources main/java)
     quiet 'javadoc' javadoc -quiet -Xdoclint:all -Werror -cp "$jna" -d "$room/javadoc" "${files[@]}"
     if with 'Java over java.lang.foreign' 'a JDK of version 22 or later' test -n "$jdk"; then
@@ -61,6 +71,7 @@ if here Java javac && with Java 'libjna-java or junit4' test -e $jna -a -e "${ju
             "${foreign[@]}" Answers
         quiet 'the tests of the package over java.lang.foreign' "${foreign[@]}" org.junit.runner.JUnitCore \
             example.yuccaeave.urlcheck.UrlCheckTest
+        says_told 'it has no function urlcheck_version' "${foreign[@]}"
     fi
     has_version java/pom.xml '<version>@</version>'
     package=src/main/java/example/yuccaeave/urlcheck

@@ -74,8 +74,10 @@ public final class UrlCheckTest {
             assertEquals(rule, Rule.of(rule.toString()));
         }
         assertEquals("host-ipv6", Rule.HOST_IPV6.toString());
-        assertThrows(IllegalArgumentException.class, () -> Profile.of("Wide"));
-        assertThrows(IllegalArgumentException.class, () -> Rule.of("HOST_IPV6"));
+        Exception profile = assertThrows(IllegalArgumentException.class, () -> Profile.of("Wide"));
+        assertEquals("no profile has the name Wide: there are standard, wide and parser", profile.getMessage());
+        Exception rule = assertThrows(IllegalArgumentException.class, () -> Rule.of("HOST_IPV6"));
+        assertEquals("no rule has the name HOST_IPV6", rule.getMessage());
     }
 
     @Test
@@ -96,7 +98,7 @@ public final class UrlCheckTest {
         assertEquals(" b", text.substring(refusal.index()));
         assertEquals("U+0020 SPACE is not allowed in a URL", refusal.message(text));
         assertEquals(Rule.CODE_POINT.sentence(), refusal.message(""));
-        assertEquals("at place 11: " + Rule.CODE_POINT.sentence() + " [code-point]", refusal.getMessage());
+        assertEquals("at place 11: this code point is not allowed in a URL [code-point]", refusal.getMessage());
     }
 
     @Test
@@ -154,7 +156,8 @@ public final class UrlCheckTest {
     @Test
     public void textsThatNoArrayHoldsAreMistakes() {
         Utf8.requireLength(Utf8.MOST_UNITS);
-        assertThrows(IllegalArgumentException.class, () -> Utf8.requireLength(Utf8.MOST_UNITS + 1));
+        Exception said = assertThrows(IllegalArgumentException.class, () -> Utf8.requireLength(Utf8.MOST_UNITS + 1));
+        assertEquals("the text has more than 715827882 UTF-16 units", said.getMessage());
         assertEquals(Integer.MAX_VALUE, 3L * Utf8.MOST_UNITS + Integer.MAX_VALUE % 3);
     }
 
