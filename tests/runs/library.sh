@@ -131,7 +131,7 @@ if command -v pkg-config >/dev/null && command -v cc >/dev/null; then
 else
     left_out library 'the lines that build a program' "pkg-config or cc isn't installed"
 fi
-for tests in documents sources comments projects standards words choices fixing losses limits errors; do
+for tests in documents sources comments projects standards words sentences choices fixing losses limits errors; do
     unittests python3 $tests.py
 done
 for python in python3 /usr/bin/python3; do

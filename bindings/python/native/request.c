@@ -125,7 +125,6 @@ int is_checked(state *state, urlcheck_finding found) {
             if (why) PyErr_SetObject(state->base_refused, why);
             Py_XDECREF(why);
             return 0;
-        case URLCHECK_NO_UTF8: PyErr_SetString(PyExc_ValueError, "the text isn't UTF-8"); return 0;
         case URLCHECK_MEMORY: PyErr_SetString(PyExc_MemoryError, "urlcheck"); return 0;
         default: PyErr_SetString(PyExc_ValueError, "no profile has this number"); return 0;
     }

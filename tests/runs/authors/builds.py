@@ -321,12 +321,14 @@ class Sphinx(Built):
         ):
             self.write({"conf.py": "extensions = ['urlcheck.sphinx']\nexclude_patterns = ['mst.md', 'out']\n" + given})
             self.assertEqual(re.findall(r"\[([a-z-]+)\]$", self.build("-E")[1], re.M), rules)
-        for given, wanted in (("urlcheck_profile = 'x'", "urlcheck_profile is one of standard, wide, parser"),
-                              ("urlcheck_base = 'x'", "urlcheck_base: the base is refused at place 0"),
-                              ("urlcheck_ignore = ['(']", "urlcheck_ignore: not a regular expression")):
+        for given, wanted in (
+            ("urlcheck_profile = 'x'", "urlcheck_profile is one of standard, wide, parser"),
+            ("urlcheck_base = 'x'", "urlcheck_base: the base is refused at place 0: it has no scheme [no-scheme]"),
+            ("urlcheck_ignore = ['(']", "urlcheck_ignore: not a regular expression: missing ), unterminated subpattern at position 0"),
+        ):
             self.write({"conf.py": "extensions = ['urlcheck.sphinx']\n" + given})
             status, said = self.build("-E")
-            self.assertEqual((status, wanted in said), (2, True), said)
+            self.assertEqual((status, said.strip().splitlines()[-1]), (2, wanted))
 
 
     @unittest.skipUnless(HAS_TOML, "nothing reads TOML")
@@ -455,8 +457,15 @@ class MkDocs(Built):
         self.write({"docs/index.md": "# T\n\n[a](http://a_b/) [b](mailto:^)\n"})
         self.assertEqual(self.build("--strict")[0], 1)
         self.assertEqual(self.build("--strict", settings="[{urlcheck: {profile: wide, ignore: ['\\^']}}]")[0], 0)
-        for given in ("profile: x", "base: x", "ignore: ['(']"):
-            self.assertEqual(self.build(settings="[{urlcheck: {" + given + "}}]")[0], 1)
+        for given, wanted in (
+            ("profile: x", None),
+            ("base: x", "urlcheck: the base is refused at place 0: it has no scheme [no-scheme]"),
+            ("ignore: ['(']", "urlcheck: ignore has no regular expression: missing ), unterminated subpattern at position 0"),
+        ):
+            status, said = self.build(settings="[{urlcheck: {" + given + "}}]")
+            told = re.search("ERROR *-? *(?:\x1b\\[0m)?(.*)", said)
+            # (MkDocs itself refuses a name that isn't one of those it was told)
+            self.assertEqual((status, told and told[1]), (1, wanted or told[1]), said)
 
 
 if __name__ == "__main__":

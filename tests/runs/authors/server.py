@@ -293,11 +293,20 @@ class Served(unittest.TestCase):
         client.tell("workspace/didChangeConfiguration", {"settings": {"urlcheck": {"base": "urn:a"}}})
         self.assertEqual([it["code"] for it in client.diagnostics(uri)], ["host-domain", "opaque-base", "empty"])
         client.tell("workspace/didChangeConfiguration",
-                    {"settings": {"base": "x", "profile": 1, "severity": "x", "ignore": ["(", 1], "other": 1}})
-        while len(client.notified) < 7:
+                    {"settings": {"base": "x", "profile": 1, "severity": "x", "ignore": ["(", 1], "other": 1, "gfm": 1, "noEmpty": 2}})
+        while len(client.notified) < 9:
             client.notified.append(client.read())
         told = [it["params"]["message"] for it in client.notified if it["method"] == "window/showMessage"]
-        self.assertEqual(len(told), 6, told)
+        self.assertEqual(told, ["urlcheck: " + it for it in (
+            "there is no setting other",
+            "the profile is one of standard, wide, parser",
+            "the severity is one of error, warning, information, hint",
+            "the base isn't a valid URL string",
+            "not a regular expression: (",
+            "not a regular expression: 1",
+            "gfm is true or false",
+            "noEmpty is true or false",
+        )])
         client.end()
         # A client that has settings is asked for them.
         client = self.start(None, {"workspace": {"configuration": True}})
@@ -478,7 +487,78 @@ class Served(unittest.TestCase):
         client.process.stdin.close()
         self.assertEqual(client.process.wait(20), 0)
 
+    def test_sentences(self):
+        """Each error is in these words and no others."""
+        client = self.start(capabilities=False)
+        self.assertEqual(client.ask("textDocument/hover", {})["error"]["message"], "the server isn't initialized")
+        client.ask("initialize", {"capabilities": {"workspace": {"configuration": True}}})
+        client.tell("initialized", {})
+        # (an answer to what the server asks, with an identifier that isn't one)
+        self.assertEqual(client.read()["method"], "workspace/configuration")
+        client.send(b'{"jsonrpc":"2.0","id":[1],"result":1}')
+        self.assertEqual(client.read()["error"]["message"], "this isn't a message of JSON-RPC 2.0")
+        uri, place = "file:///nowhere/a.links", {"line": "x", "character": 0}
+        client.open(uri, "a^")
+        for body, said in (
+            (b"x", "this isn't JSON in UTF-8"),
+            (b"{}", "this isn't a message of JSON-RPC 2.0"),
+            (b'{"jsonrpc":"2.0","id":1,"method":"shutdown","params":[1]}', "the parameters are named"),
+        ):
+            with self.subTest(body):
+                client.send(body)
+                self.assertEqual(client.read()["error"]["message"], said)
+        said = client.ask("textDocument/hover", {"textDocument": {"uri": uri}})["error"]["message"]
+        self.assertEqual(said, "these aren't the parameters of textDocument/hover")
+        said = client.ask("textDocument/hover", {"textDocument": {"uri": uri}, "position": place})["error"]["message"]
+        self.assertEqual(said, "this can't be answered")
+        # (a text that changes again before it is checked)
+        client.change(uri, {"text": "b^\n" * 200_000})
+        number = client.begin("textDocument/hover", {"textDocument": {"uri": uri}, "position": {"line": 0, "character": 0}})
+        client.change(uri, {"text": "c^"})
+        self.assertEqual(client.answer(number)["error"]["message"], "the text has changed")
+        client.ask("shutdown", None)
+        self.assertEqual(client.ask("textDocument/hover", {})["error"]["message"], "the server is shut down")
+        client.stop()
+        for data, said in (
+            (b"Content-Length: 2", "a header has no end"),
+            (b"x\r\n\r\n", "a header has no colon"),
+            (b"Content-Length: x\r\n\r\n", "a length isn't a number"),
+            (b"Content-Type: x\r\n\r\n{}", "a message has no length"),
+            (b"Content-Length: 999999999\r\n\r\n", "a message has more than 256 MiB"),
+            (b"Content-Length: 5\r\n\r\n{}", "a message has less than its length"),
+        ):
+            with self.subTest(data):
+                ran = subprocess.run(PROGRAM, input=data, capture_output=True)
+                self.assertEqual((ran.returncode, ran.stderr.decode()), (1, "urlcheck-language-server: {}\n".format(said)))
+
+    def test_what_is_named(self):
+        """What a link is mended to that isn't offered, and what writes all links at once."""
+        client = self.start()
+        uri = "file:///nowhere/a.links"
+        for text, said in (
+            ("https://h/{{ x }}", "The same URL, written validly, is ` https://h/%7B%7B%20x%20%7D%7D `."),
+            ("https://h/%s", "The same text, percent-encoded, is ` https://h/%25s `."),
+            ("tel:+1 2 ", "A valid URL string that is near it is ` tel:+1%202 `."),
+        ):
+            client.open(uri, text)
+            place = {"textDocument": {"uri": uri}, "position": {"line": 0, "character": 0}}
+            value = client.ask("textDocument/hover", place)["result"]["contents"]["value"]
+            self.assertEqual(value.split("\n\n")[1], said)
+        client.open(uri, "http://h/a b")
+        titles = [it["title"] for it in client.actions(uri, at(0, 0), only=["quickfix", "source.fixAll"])]
+        self.assertEqual(titles, ["Write http://h/a%20b (the same URL)", "Write all links validly that stay the same"])
+        self.assertEqual(client.end(), 0)
+
     def test_words(self):
+        usage = (
+            "usage: urlcheck-language-server [--version | --help]\n\n"
+            "Speaks the Language Server Protocol on standard input and output: an editor\n"
+            "starts it. Its settings come from the editor: docs/CONFIGURATION.md lists them.\n"
+        )
+        refused = usage + "urlcheck-language-server: it takes no arguments\n"
+        for word, wanted in (("--help", (0, usage, "")), ("-h", (0, usage, "")), ("--port", (1, "", refused))):
+            ran = subprocess.run([*PROGRAM, word], stdin=subprocess.DEVNULL, capture_output=True)
+            self.assertEqual((ran.returncode, ran.stdout.decode(), ran.stderr.decode()), wanted)
         for words, status in ((["--version"], 0), (["--help"], 0), (["--port", "1"], 1)):
             ran = subprocess.run(PROGRAM + words, stdin=subprocess.DEVNULL, capture_output=True)
             self.assertEqual(ran.returncode, status)

@@ -1,4 +1,7 @@
-"""Tests of the package's errors and types: what is raised, that it can be sent to another process, and several texts."""
+"""Tests of the package's errors and types: what is raised, that it can be sent to another process, and several texts.
+
+One sentence of the extension module has no test: that a fixed text of the library is longer than its buffer of 512 bytes, which no text
+of this library is."""
 
 import copy
 import dataclasses
@@ -12,6 +15,35 @@ import unittest
 import weakref
 
 import urlcheck
+from urlcheck import _native
+
+ARGUMENTS = "(text, base=None, profile=None)"
+RAISES = """
+
+Raises ``BaseRefused`` where the base isn't valid alone, ``UnicodeEncodeError`` where a text holds a surrogate,
+which is no code point of a text, ``TypeError`` where the text or the base is no ``str``, ``ValueError`` where no
+profile has the number or the name, or the base has another one, and ``MemoryError``."""
+ABOUT = {
+    "check": "Whether the text is a valid URL string, alone or against the base.",
+    "is_valid": "Whether the text is a valid URL string, alone or against the base, without its parts: the fastest call.",
+    "resolve": "The text of the URL record that the text denotes, alone or against the base, or its refusal.",
+    "mend": "What to write in place of a refused text: a valid one made of it by local edits, which keep all else.\n\n"
+    "``None`` where the text is valid, and its refusal where the edits give no valid text.",
+    "violations": "All that is wrong with the text, by place and at one place by the rule's number; none where it is valid.",
+}
+"""What ``help`` says of the functions."""
+
+
+def holding(held):
+    """A base that holds these bytes, or what a function makes of its own, in place of what was checked of it."""
+    base = urlcheck.Base("http://h/")
+    object.__setattr__(base, "_held", held(base._held) if callable(held) else held)
+    return base
+
+
+def diagnosed(line=1, kind=0, file="f"):
+    """What the extension module writes of a link by these words and numbers."""
+    return _native.diagnostic(0, True, (file, "percent", "", "m", "", "a", ""), (line, 1, 1, 2, 0, 0, 0, 0, 0, 0, kind, 0))
 
 
 def against(base):
@@ -41,6 +73,54 @@ class Errors(unittest.TestCase):
         self.assertEqual([dataclasses.asdict(it) for it in urlcheck.violations("http://h/^")], [{"rule": "code-point", "place": 9}])
         mended = json.loads(json.dumps(dataclasses.asdict(urlcheck.mend("http://h/^"))))
         self.assertEqual(mended, {"text": "http://h/%5E", "kind": "same", "is_offered": True})
+
+    def test_sentences(self):
+        """What is said is these words and no others."""
+        violation, none, lost = urlcheck.Violation("percent", 0), "no profile has this number", "a base has lost what was checked of it"
+        profiled, wide = holding(lambda it: it[:24] + bytes([9]) + it[25:]), urlcheck.Base("http://h_/", "wide")
+        for call, error, said in (
+            (lambda: urlcheck.check(b"x"), TypeError, "a text is a str, not bytes"),
+            (lambda: urlcheck.check("x", 5), TypeError, "a base is a str, a urlcheck.Base or None, not int"),
+            (lambda: urlcheck.check("x", None, 3), ValueError,
+             "no profile has the number 3: there are standard (0), wide (1), parser (2)"),
+            (lambda: urlcheck.check("x", None, "Wide"), ValueError,
+             "no profile has the name Wide: there are standard (0), wide (1), parser (2)"),
+            (lambda: urlcheck.check("x", None, 1.0), TypeError, "a profile is a urlcheck.Profile or its name, not float"),
+            (lambda: urlcheck.check("x", wide, "parser"), ValueError, "the base was checked by another profile: WIDE"),
+            (lambda: urlcheck.check("x", holding(b"")), TypeError, lost),
+            (lambda: urlcheck.check("x", holding(5)), TypeError, lost),
+            (lambda: urlcheck.check("x", profiled), ValueError, none),
+            (lambda: urlcheck.message("x", violation, base=profiled), ValueError, none),
+            (lambda: urlcheck.Base(b"a:"), TypeError, "a base is a str, not bytes"),
+            (lambda: setattr(wide, "text", "a:"), AttributeError, "a Base doesn't change: make another one"),
+            (lambda: delattr(wide, "text"), AttributeError, "a Base doesn't change: make another one"),
+            (lambda: urlcheck.check_each("x"), TypeError, "texts are wanted, not one str"),
+            (lambda: urlcheck.check_many("x"), TypeError, "texts are wanted, not one str"),
+            (lambda: urlcheck.column("x", 2), ValueError, "the place is after the end of the text"),
+            (lambda: urlcheck.column("x", 0, "bytes", 0), ValueError, "a line or a column isn't from 1 to 4294967295"),
+            (lambda: _native.column(b"\xff", 0, 1, 0), ValueError, "a text isn't UTF-8"),
+            (lambda: _native.report_begin(9, 0), ValueError, "no format has this number"),
+            (lambda: _native.report_begin(4, 1), ValueError, "the format has no word for this unit"),
+            (lambda: _native.report_begin(0, 4), ValueError, "the format has no word for this unit"),
+            (lambda: _native.report_end(0, 3), ValueError, "a report has no such end"),
+            (lambda: _native.message("x", None, None, 4, 14, 0), ValueError, "no wording has this number"),
+            (lambda: _native.message("x", None, None, 0, 15, 0), ValueError, "no rule has this number"),
+            (lambda: diagnosed(kind=4), ValueError, "no kind of mended text has this number"),
+            (lambda: diagnosed(line=0), ValueError, "a line or a column isn't from 1 to 4294967295"),
+            (lambda: diagnosed(file=b"\xff"), ValueError, "a text isn't UTF-8"),
+            (lambda: _native.use((), (), (), (), ()), ValueError, "the package isn't the module's"),
+        ):
+            with self.subTest(said):
+                with self.assertRaises(error) as raised:
+                    call()
+                self.assertEqual(str(raised.exception), said)
+
+    def test_help(self):
+        self.assertEqual(_native.__doc__, "The library, called from Python.")
+        for name, about in ABOUT.items():
+            function = getattr(urlcheck, name)
+            self.assertEqual(function.__doc__, about + RAISES)
+            self.assertEqual(function.__text_signature__, ARGUMENTS)
 
     def test_what_is_wanted_is_said(self):
         for words, error, said in (

@@ -8,12 +8,15 @@ import re
 import sys
 import threading
 import time
+import types
 import unittest
+from unittest import mock
 
 sys.path.insert(0, os.path.join(os.path.dirname(os.path.abspath(__file__)), "..", "library"))
 
 import urlcheck
 from cases import unpacked
+from urlcheck import _native
 
 try:
     import numpy
@@ -203,6 +206,23 @@ class Lists(Compared):
         self.assertLessEqual(sys.getrefcount(path), 3)
 
 
+class Changing(unittest.TestCase):
+    def test_a_list_that_changes(self):
+        """A list that another thread empties while it is checked is an error."""
+        for _ in range(100):
+            texts = ["http://h/" + 5_000_000 * "a"] * 4
+            timer = threading.Timer(0.001, texts.clear)
+            timer.start()
+            try:
+                urlcheck.check_many(texts)
+            except RuntimeError as error:
+                self.assertEqual(str(error), "the list changed while it was checked")
+                return
+            finally:
+                timer.join()
+        self.fail("no list changed")
+
+
 class Vectors(Compared):
     """Every case of the vectors, with its own base, in three profiles: lists and Arrow arrays of those with one base."""
 
@@ -252,9 +272,9 @@ class Arrays(Compared):
         self.assertEqual(urlcheck.is_valid_many(numpy.array(["http://h/", "x"])).tolist(), [True, False])
         self.assertEqual(len(urlcheck.check_many(numpy.array([], object)).place), 0)
         self.assertEqual(urlcheck.is_valid_many(numpy.array(["http://h/", "x"], object)[::-1]).tolist(), [False, True])
-        with self.assertRaisesRegex(TypeError, "an array of texts is wanted, not of int64"):
+        with self.assertRaisesRegex(TypeError, "^an array of texts is wanted, not of int64$"):
             urlcheck.check_many(numpy.arange(3))
-        with self.assertRaisesRegex(ValueError, "one dimension"):
+        with self.assertRaisesRegex(ValueError, "^an array of one dimension is wanted, not of 2$"):
             urlcheck.check_many(numpy.array([["a"], ["b"]], object))
 
 
@@ -323,8 +343,9 @@ class Series(Compared):
         self.assertEqual((listed(found.valid), list(found.place.index)), ([True, False], [5, 7]))
         for table in (pandas.DataFrame({"url": ["x"]}), type("Frame", (pandas.DataFrame,), {})({"url": ["x"]})):
             for call in (urlcheck.check_many, urlcheck.is_valid_many, urlcheck.resolve_many, urlcheck.mend_many):
-                with self.assertRaisesRegex(TypeError, "a column of texts is wanted, not a DataFrame: name one, as frame"):
+                with self.assertRaises(TypeError) as raised:
                     call(table)
+                self.assertEqual(str(raised.exception), "a column of texts is wanted, not a DataFrame: name one, as frame['url']")
 
     @unittest.skipUnless(pyarrow and hasattr(pandas, "ArrowDtype"), "no pyarrow, or a pandas before 1.5")
     def test_types_of_arrow(self):
@@ -425,13 +446,14 @@ class Streamed:
         pass
 
     TAKE = ctypes.CFUNCTYPE(ctypes.c_int, ctypes.c_void_p, ctypes.c_void_p)
-    SAY = ctypes.CFUNCTYPE(ctypes.c_char_p, ctypes.c_void_p)
+    SAY = ctypes.CFUNCTYPE(ctypes.c_void_p, ctypes.c_void_p)
     Stream._fields_ = [("get_schema", TAKE), ("get_next", TAKE), ("get_last_error", SAY), ("release", ctypes.c_void_p),
                        ("private_data", ctypes.c_void_p)]
 
-    def __init__(self, pieces):
+    def __init__(self, pieces, **fields):
         self.handed = [Handed(piece) for piece in pieces]
         self.schema = Handed([]).schema
+        self.fields = fields
 
     def __arrow_c_stream__(self, requested_schema=None):
         left = iter(self.handed)
@@ -447,6 +469,8 @@ class Streamed:
 
         release = ctypes.cast(Handed.RELEASE, ctypes.c_void_p)
         self.stream = self.Stream(self.TAKE(get_schema), self.TAKE(get_next), self.SAY(lambda _: None), release, None)
+        for name, value in self.fields.items():
+            setattr(self.stream, name, value)
         new = ctypes.pythonapi.PyCapsule_New
         new.restype, new.argtypes = ctypes.py_object, [ctypes.c_void_p, ctypes.c_char_p, ctypes.c_void_p]
         return new(ctypes.addressof(self.stream), b"arrow_array_stream", None)
@@ -546,6 +570,58 @@ class Arrow(Compared):
                 self.assertEqual(tuple(map(read, urlcheck.check_many(array, base, profile))), one_by_one(here, base, profile))
             self.assertEqual(read(urlcheck.resolve_many(array)), resolved(here))
             self.assertEqual(tuple(map(read, urlcheck.mend_many(array))), mended(here))
+
+    def refuses(self, array, said, error=ValueError):
+        """Each call over the array is an error of these words."""
+        for call in (urlcheck.check_many, urlcheck.is_valid_many, urlcheck.resolve_many, urlcheck.mend_many):
+            with self.subTest(said=said, call=call.__name__):
+                with self.assertRaises(error) as raised:
+                    call(array)
+                self.assertEqual(str(raised.exception), said)
+
+    def test_sentences(self):
+        for fields, said in (
+            ({"length": -1}, "the array is broken: it has no length, or other buffers than strings have"),
+            ({"n_buffers": 2}, "the array is broken: it has no length, or other buffers than strings have"),
+            ({"release": None}, "the array is broken: it was released before"),
+        ):
+            array = Handed(["x"])
+            for name, value in fields.items():
+                setattr(array.array, name, value)
+            self.refuses(array, said)
+        for buffer, said in ((1, "the array is broken: it has no offsets"), (2, "the array is broken: it has no bytes")):
+            array = Handed(["x"])
+            array.buffers[buffer] = None
+            self.refuses(array, said)
+        array = Handed(["x"])
+        array.schema.release = None
+        self.refuses(array, "the array is broken: it was released before")
+        self.refuses(Handed(["x"], layout=b"l"), "an array of strings is wanted, not one of the Arrow format l", TypeError)
+        words = ctypes.create_string_buffer(b"no more")
+        for fields, said in (
+            ({"get_schema": Streamed.TAKE(lambda *_: 1)}, "the stream is broken: it has no schema"),
+            ({"get_next": Streamed.TAKE(lambda *_: 1)}, "the stream is broken: it says not why"),
+            ({"get_next": Streamed.TAKE(lambda *_: 1), "get_last_error": Streamed.SAY(lambda _: ctypes.addressof(words))},
+             "the stream is broken: no more"),
+            ({"release": None}, "the stream is broken: it was released before"),
+        ):
+            stream = Streamed([["x"]], **fields)
+            # (a function of C that does nothing: one of Python's would lose the error while its schema is given back)
+            stream.schema.release = ctypes.cast(ctypes.pythonapi.Py_IsInitialized, ctypes.c_void_p)
+            self.refuses(stream, said)
+        with self.assertRaisesRegex(ValueError, "^no format that is handed out$"):
+            _native.export(("i", 0, 0, (None,), None))
+
+    def test_older_versions_of_pyarrow(self):
+        """One that hands arrays out by a method of its own only, and one that takes them by addresses only."""
+
+        class Array(Handed):
+            pass
+
+        self.refuses(type("Exported", (), {"_export_to_c": None})(),
+                     "an array that has __arrow_c_array__ is wanted, as pyarrow 14 and later give", TypeError)
+        with mock.patch.dict(sys.modules, pyarrow=types.SimpleNamespace(Array=Array, ChunkedArray=Array)):
+            self.refuses(Array(["x"]), "pyarrow 14 or later is wanted", TypeError)
 
     def test_broken_arrays(self):
         # (the row is the first that ends before it begins, or after the end of them all)

@@ -19,7 +19,6 @@ _NAMED_AS = {
     MendKind.SAME: "The same URL, written validly,",
     MendKind.ESCAPED: "The same text, percent-encoded,",
     MendKind.CHANGED: "A valid URL string that is near it",
-    None: "A valid URL string",
 }
 """How a mended text is named that isn't offered."""
 
@@ -32,7 +31,7 @@ def diagnostics_on(seen: Seen, severity: int) -> List[Json]:
 def hover_on(found: Mistake) -> Json:
     """What the rule requires that is violated by a link, and what it is mended to if that isn't offered."""
     rule = rule_of(found.rule)
-    named = "" if found.named is None else "\n\n" + _named(found.named, found.kind)
+    named = "" if found.named is None or found.kind is None else "\n\n" + _named(found.named, found.kind)
     said = "**{}**: {}{}\n\n{}".format(rule.name, found.message, named, rule.requires)
     value = "{}\n\n[{}]({})".format(said, "The standard", rule.url)
     return {"contents": {"kind": "markdown", "value": value}, "range": _span(found.whole)}
@@ -85,7 +84,7 @@ def _is_wanted(kind: str, wanted: Any) -> bool:
     return not isinstance(wanted, list) or any(kind == it or kind.startswith("{}.".format(it)) for it in wanted)
 
 
-def _named(text: str, kind: Optional[MendKind]) -> str:
+def _named(text: str, kind: MendKind) -> str:
     """A mended text that isn't offered, in Markdown: as code between more backticks than are in it."""
     runs = re.findall("`+", text)
     ticks = "`" * (max(map(len, runs), default=0) + 1)
