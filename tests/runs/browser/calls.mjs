@@ -2,7 +2,9 @@
 // grow with the number of calls, instances next to each other, a thread of its own, and each way to give the module.
 // Usage: node calls.mjs FOLDER
 import assert from 'node:assert/strict'
+import { once } from 'node:events'
 import { cpSync, mkdtempSync, readFileSync, readdirSync, rmSync } from 'node:fs'
+import { createServer } from 'node:http'
 import { tmpdir } from 'node:os'
 import { join, resolve } from 'node:path'
 import { pathToFileURL } from 'node:url'
@@ -26,6 +28,21 @@ async function withMemory(source) {
   }
   try {
     return { urlcheck: await load(source), memory }
+  } finally {
+    WebAssembly.instantiate = instantiate
+  }
+}
+
+/** A checker whose module answers 77, which no call of liburlcheck does. */
+async function answering77() {
+  const { instantiate } = WebAssembly
+  WebAssembly.instantiate = async (...words) => {
+    const { exports } = await instantiate(...words)
+    const answer = () => { new Uint32Array(exports.memory.buffer, exports.answer_at() >>> 0, 1)[0] = 77 }
+    return { exports: { ...exports, check: answer, check_lines: answer, report_end: answer } }
+  }
+  try {
+    return await load(bytes)
   } finally {
     WebAssembly.instantiate = instantiate
   }
@@ -88,6 +105,64 @@ const tests = {
     assert.equal(urlcheck.check('a', { base: 'urn:a/' }).valid, false)
     assert.equal(urlcheck.check('http://a_b/', { base: null, profile: 'wide' }).valid, true)
     assert.equal(urlcheck.check('http://a_b/', { base: undefined, profile: undefined }).valid, false)
+  },
+
+  async 'the sentences of errors'() {
+    const [urlcheck, other] = [await load(), await answering77()]
+    const { urlcheck: small } = await withMemory(limited(bytes, 4))
+    const [held, report, whole] = [urlcheck.base('http://h/'), urlcheck.report('gnu'), 'no whole number from']
+    const told = wrong => report.diagnostic({ file: 'a', line: 1, text: 'a b', rule: 'code-point', place: 1, ...wrong })
+    const errors = {
+      TypeError: [
+        [() => urlcheck.check(1), 'the text is no string'],
+        [() => urlcheck.check('ab\ud800'), 'the text has a lone surrogate at index 2'],
+        [() => urlcheck.check('a', { base: 1 }), 'the base is no string'],
+        [() => urlcheck.check('a', { base: '\ud800' }), 'the base has a lone surrogate at index 0'],
+        [() => urlcheck.check('a', { base: {} }), 'the base is neither a string nor what `base` gave'],
+        [() => urlcheck.check('a', { profile: 'Wide' }), "the profile has to be 'standard', 'wide' or 'parser'"],
+        [() => urlcheck.check('a', 'http://h/'), "the options aren't an object, such as { base: text, profile: name }"],
+        [() => urlcheck.check('a', held), 'a base is in the place of the options: write { base }'],
+        [() => urlcheck.check('a', { bas: 'a:' }), 'there is no option bas, but base, profile and wording'],
+        [() => urlcheck.check('a', { base: held, profile: 'wide' }),
+          'the base was checked by the standard profile, and another one is given for the text'],
+        [() => urlcheck.message('a', { rule: 'percent', place: 0 }, { wording: 'x' }),
+          "the wording has to be 'arguments', 'options', 'sql' or 'none'"],
+        [() => urlcheck.checkMany('a'), "the lines aren't a Uint8Array"],
+        [() => urlcheck.explain('x'), 'no rule has the name x'],
+        [() => urlcheck.report('xml'), 'no format has the name xml'],
+        [() => urlcheck.report('gnu', 'inches'), 'no unit has the name inches'],
+        [() => urlcheck.report('sarif', 'bytes'), 'the format sarif has no word for bytes'],
+        [() => report.end('ended'), "the completion has to be 'whole', 'unread' or 'stopped'"],
+        [() => report.fileBegin(1), 'the name of the file is no string'],
+        [() => told({ file: '\ud800' }), 'the name of the file has a lone surrogate at index 0'],
+        [() => told({ mended: { text: 1, kind: 'same' } }), 'the mended text is no string'],
+        [() => told({ mended: { text: 'a', kind: 'x' } }), "the kind has to be 'same', 'escaped' or 'changed'"]
+      ],
+      RangeError: [
+        [() => urlcheck.message('a', { rule: 'percent', place: 2 }), 'the place is after the end of the text'],
+        [() => told({ place: -1 }), `the place is ${whole} 0 to 4294967295`],
+        [() => told({ line: 0 }), `the line is ${whole} 1 to 4294967295`],
+        [() => told({ column: 1.5 }), `the column is ${whole} 1 to 4294967295`],
+        [() => told({ column: 2 ** 32 - 1 }), 'a column is above 4294967295'],
+        [() => small.check('x'.repeat(1_000_000)), 'out of memory']
+      ],
+      BaseRefused: [
+        [() => urlcheck.check('a', { base: 'a' }), 'the base is refused at place 0: it has no scheme [no-scheme]']
+      ],
+      Error: [
+        [() => other.check('a:'), 'urlcheck.wasm answers 77'],
+        [() => other.checkMany(new Uint8Array([97])), 'urlcheck.wasm answers 77'],
+        [() => other.report('gnu').end(), 'urlcheck.wasm answers 77']
+      ]
+    }
+    for (const [name, calls] of Object.entries(errors)) {
+      for (const [call, message] of calls) assert.throws(call, { name, message })
+    }
+    const server = createServer((_, answer) => answer.writeHead(404).end()).listen(0, '127.0.0.1')
+    await once(server, 'listening')
+    const address = `http://127.0.0.1:${server.address().port}/urlcheck.wasm`
+    await assert.rejects(load(address), { name: 'Error', message: `${address} isn't there: 404` })
+    server.close()
   },
 
   async 'each profile takes more'() {

@@ -110,6 +110,10 @@ ALL = (
         "page/style.css", "  width: 12rem;\n", "  width: 40rem;\n",
     ),
     Spoiled(
+        "a word that is spoiled", "words", "Lists differ",
+        "index.html", "or drop one anywhere on this page", "or drop it anywhere on this page",
+    ),
+    Spoiled(
         "a field without a name", "names", "without a name",
         "index.html", '<label for="text">', "<label>",
     ),

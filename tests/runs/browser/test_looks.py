@@ -4,6 +4,7 @@ loads."""
 from __future__ import annotations
 
 import os
+import re
 
 from page import Page
 from selenium.webdriver.common.by import By
@@ -30,7 +31,71 @@ FOCUSED = (
 )
 
 
+# The words of the page in a view, but for what is said of a text, a list or a document.
+WORDS = (
+    "const all = names => [...document.querySelectorAll(names)].filter(it => it.getClientRects().length > 0);"
+    "const texts = all('h1, header p, nav a, form label, form .hint, #profile-name, .drop, footer p');"
+    "const named = name => all(`form [${name}], nav[${name}], section[${name}]`).map(it => it.getAttribute(name));"
+    "const examples = [...document.querySelectorAll('#example option')].slice(0, 6);"
+    "return [document.title, document.querySelector('meta[name=description]').content,"
+    " ...[...texts, ...examples].map(it => it.textContent), ...named('placeholder'), ...named('aria-label')]"
+    ".map(it => it.replace(/\\s+/g, ' ').trim())"
+)
+HEAD = [
+    "urlcheck: is it a valid URL string?",
+    "Says whether a text is a valid URL string (WHATWG URL Standard), and why it isn't.",
+    "urlcheck",
+    "Is it a valid URL string? The written grammar of the URL Standard, checked by proved code in your browser.",
+    *("One text", "A list", "An HTML file"),
+]
+OPTIONS = ["Base (optional)", "(optional)", "Profile", "standard", "wide", "parser"]
+FOOT = [
+    "Nothing leaves this page: it loads its own files alone, and checks in the browser. Version N.",
+    *("choose one", "valid, with all parts", "valid, an opaque path", "valid against a base"),
+    *("several violations", "hidden controls"),
+]
+# What is read in each view, under one of the profiles each.
+VIEWS: tuple[tuple[str, str, list[str], list[str]], ...] = (
+    (
+        "text",
+        "standard",
+        ["Text", "Example", *OPTIONS, "The URL Standard\u2019s valid URL strings."],
+        ["none", "What to check", "Answer"],
+    ),
+    (
+        "list",
+        "wide",
+        [
+            *("Links, one a line", "Choose a file", "or drop one anywhere on this page", *OPTIONS),
+            "Also _ and hyphens anywhere in domains, and any segments after an authority.",
+        ],
+        ["Paste a list here, or drop a file", "none", "What to check", "Report"],
+    ),
+    (
+        "html",
+        "parser",
+        [
+            "Drop an HTML file here. This browser's own parser finds the links of its attributes, but not those of style "
+            "sheets or of a refresh; no script of it runs, and nothing is loaded.",
+            "Choose a file",
+            "A relative link is read against the document's base, else against the base below.",
+            *OPTIONS,
+            "Each text that the Standard\u2019s parser accepts without a validation error, and no other.",
+        ],
+        ["none", "What to check", "Report"],
+    ),
+)
+
+
 class Looks(PageCase):
+    def test_words(self) -> None:
+        """What is read on the page before anything is checked."""
+        for view, profile, words, names in VIEWS:
+            self.page.open(view=view, profile=profile)
+            found = [re.sub(r"\d+\.\d+\.\d+", "N", it) for it in self.page.run(WORDS)]
+            self.assertEqual(found, [*HEAD, *words, *FOOT, *names])
+        self.told = "{} views".format(len(VIEWS))
+
     def test_the_address(self) -> None:
         """A case can be sent as a link."""
         self.page.open()
