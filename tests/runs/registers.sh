@@ -21,6 +21,10 @@ gcc -std=c99 -O2 -I "$library/include" "$top/tests/runs/library/answers.c" "$lib
 counter=$room/prepares.so
 gcc -std=gnu99 -Wall -Wextra -Werror -O2 -shared -fPIC -I "$library/include" "$top/tests/runs/registers/prepares.c" -o "$counter"
 
+# What is preloaded for answers that no text has: its calls answer what their text says.
+told=$room/told.so
+gcc -std=c99 -Wall -Wextra -Werror -O2 -shared -fPIC -I "$library/include" "$top/tests/runs/languages/told.c" -o "$told"
+
 # A few of the cases, for copies that are spoiled.
 few=$room/few
 python3 "$top/tests/runs/library/cases.py" pack "$few" "$top/tests/vectors/urls.json"

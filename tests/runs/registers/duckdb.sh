@@ -41,6 +41,12 @@ else
     extension=$room/duckdb/urlcheck.duckdb_extension
     in_its_shell "$extension" || fail 'duckdb: the answers in its shell'
     on_cases "$extension" "$cases" "$answers/wanted"
+    # (of answers that no text has, by the library of told.c)
+    printf '%s\n' "SELECT url_is_valid('77');" "SELECT url_is_valid('5');" "SELECT url_message('1 15');" |
+        LD_PRELOAD=$told in_duckdb "$extension" >"$room/found" 2>&1 || true
+    for said in 'the library for urlcheck answers 77' 'urlcheck: out of memory' 'it is not a valid URL string'; do
+        grep -qF "$said" "$room/found" || fail "duckdb: what is said of odd answers: $(cat "$room/found")"
+    done
     # (a base that is constant is checked once for a chunk of 2048 rows)
     { echo 'SET threads = 1;' && echo "SELECT count(url_resolve('a' || range, 'http://h/')) FROM range(10240);"; } |
         LD_PRELOAD="$counter $library/lib/liburlcheck.so" in_duckdb "$extension" >"$room/found" 2>&1

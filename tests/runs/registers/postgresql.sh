@@ -114,6 +114,11 @@ encodings() {
         -c "CREATE DATABASE bytes ENCODING SQL_ASCII LOCALE 'C' TEMPLATE template0"
     local name
     for name in latin1 win1252 bytes; do sql -d $name -c 'CREATE EXTENSION urlcheck'; done
+    # (of this one no server knows UTF-8)
+    sql -c "CREATE DATABASE mule ENCODING MULE_INTERNAL LOCALE 'C' TEMPLATE template0"
+    PGCLIENTENCODING=MULE_INTERNAL sql -d mule -c 'CREATE EXTENSION urlcheck'
+    PGCLIENTENCODING=MULE_INTERNAL says "SELECT url_is_valid('http://h/' || convert_from('\x81e9', 'MULE_INTERNAL'))" \
+        'ERROR:  42883: no default conversion to UTF8 exists for the encoding "MULE_INTERNAL"' mule
     says "SELECT url_is_valid('http://münchen.de/ü'), url_resolve('http://münchen.de/ü')" \
         't|http://xn--mnchen-3ya.de/%C3%BC' latin1
     says "SELECT url_host('http://münchen.de/ü'), url_place('http://münchen.de/ü b')" 'münchen.de|20' latin1
@@ -189,6 +194,17 @@ bases() {
     prepares "SELECT count(url_resolve('a', url)) FROM many WHERE id BETWEEN 1 AND 200" 200
 }
 
+# What is said of answers that no text has: the server begins again, with the library of told.c before its own.
+odd_answers() {
+    cp "$told" "$room/told.so"
+    LD_PRELOAD=$room/told.so quietly as_user "$tree$bin/pg_ctl" -D "$data/base" -l "$data/log" -w -t 60 restart
+    says "SELECT url_is_valid('77')" 'ERROR:  XX000: unexpected verdict of urlcheck: 77' regress
+    says "SELECT url_is_valid('5')" 'ERROR:  53200: out of memory' regress
+    says "SELECT url_is_valid('5 0 ')" 'DETAIL:  Failed while checking a URL of 4 bytes.' regress
+    says "SELECT url_message('1 15')" 'it is not a valid URL string' regress
+    LD_PRELOAD=$preloaded quietly as_user "$tree$bin/pg_ctl" -D "$data/base" -l "$data/log" -w -t 60 restart
+}
+
 if ! has_server; then
     left_out registers PostgreSQL 'postgresql and postgresql-server-dev-all are not installed'
 else
@@ -205,6 +221,7 @@ else
     interrupted
     flat
     bases
+    odd_answers
     spoils
     echo "registers: $($pg_config --version): $ran tests by pg_regress, a dump, an update, 3 encodings, limits, 7 million calls in $after kB, spoiled copies fail"
     as_user "$tree$bin/pg_ctl" -D "$data/base" -m immediate -w stop >/dev/null

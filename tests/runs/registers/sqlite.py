@@ -41,6 +41,31 @@ class Registers(unittest.TestCase):
         with self.assertRaisesRegex(error, said):
             self.database.execute(query, values).fetchall()
 
+    def says(self, said, query):
+        """The statement is an error of these words."""
+        with self.assertRaises(sqlite3.OperationalError) as refused:
+            self.database.execute(query).fetchall()
+        self.assertEqual(str(refused.exception), said)
+
+    def test_sentences(self):
+        for words, said in (
+            ("'http://h/a b'", "invalid URL: U+0020 SPACE is not allowed in a URL (rule code-point at place 11); a valid text in its "
+             "place: http://h/a%20b"),
+            ("'http:a', 'http://h/'", "invalid URL: // has to follow this scheme (rule two-slashes at place 6); a valid text in its "
+             "place, maybe of another URL: http://a"),
+            ("'https://h//a'", "invalid URL: the path begins with //; write one slash, or use profile 'wide' (rule "
+             "first-segment-empty at place 11); the same URL, written validly, is: https://h/.//a"),
+            ("'https://h/%s'", "invalid URL: U+0025 PERCENT SIGN has to be followed by two hex digits; this looks like a template: "
+             "check what it makes (rule percent at place 11); the same text, percent-encoded, is: https://h/%25s"),
+            ("'tel:+1 2 '", "invalid URL: U+0020 SPACE is not allowed in a URL; write a number without spaces, as in "
+             "tel:+1-555-0100 (rule code-point at place 7); a valid URL string that is near it is: tel:+1%202"),
+            ("CAST(x'687474703a2f2f682fff' AS TEXT)", "invalid URL: the bytes from here on are not UTF-8 (rule no-utf8 at place 10)"),
+            ("'x', 'no base'", "invalid base URL: it has no scheme (rule no-scheme at place 1 of the base)"),
+            ("'x', NULL, 'loose'", 'unrecognized profile: valid profiles are "standard", "wide", and "parser"'),
+        ):
+            with self.subTest(words):
+                self.says(said, "SELECT url_require({})".format(words))
+
     def test_constraints(self):
         self.database.execute("CREATE TABLE link (url TEXT CHECK (url_is_valid(url)))")
         self.database.execute("CREATE TABLE said (url TEXT CHECK (url_require(url)))")
@@ -107,7 +132,8 @@ class Registers(unittest.TestCase):
         self.assertEqual(found, [(1, "code-point", 11), (3, "no-scheme", 1)])
         found = self.database.execute("SELECT id, c.scheme FROM link LEFT JOIN url_check(link.url) c ON c.valid").fetchall()
         self.assertEqual(found, [(1, None), (2, "http"), (3, None)])
-        self.refuses(sqlite3.OperationalError, "a url is wanted", "SELECT * FROM url_faults")
+        for table in ("url_check", "url_faults"):
+            self.says("a url is wanted: (url [, base [, profile]])", "SELECT * FROM " + table)
 
     def test_bad_arguments(self):
         for function in ("url_is_valid", "url_resolve", "url_mend", "url_mend_kind", "url_host"):

@@ -54,6 +54,10 @@ else
             SELECT count(url_resolve('a' || n, ${base%:*})) FROM s" 2>&1 | LC_ALL=C sort)
         [ "$found" = $'100\nbases checked: '"${base##*:}" ] || fail "sqlite: a base is checked anew: $base: $found"
     done
+    # (of answers that no text has, by the library of told.c)
+    LD_PRELOAD=$told sqlite3 -init /dev/null -batch :memory: ".load $module" ".read $top/bindings/engines/sqlite/test/told.sql" \
+        >"$room/found" 2>&1 || true
+    diff "$top/bindings/engines/sqlite/test/told.out" "$room/found" || fail 'sqlite: what is said of odd answers'
     python3 "$top/tests/runs/registers/page.py" sql database SQLite >"$room/page"
     LD_LIBRARY_PATH=$room/sqlite quietly sqlite3 -init /dev/null -batch -bail :memory: ".read $room/page"
     python=$(sqlite_python)

@@ -31,4 +31,5 @@ SELECT url_faults('x', 'http://h/^');
 SELECT url_check('x', NULL, '');
 SELECT url_require('//', 'http://h/');
 SELECT url_require('https://h/%s');
+SELECT url_require('https://h//a');
 SELECT count(*) FILTER (WHERE url_is_valid('x' || range, CASE range % 2 WHEN 0 THEN 'http://h/' ELSE 'mailto:x' END)) FROM range(10000);

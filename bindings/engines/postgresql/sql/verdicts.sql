@@ -39,10 +39,18 @@ SELECT url_require('http://h/a b');
 -- a text in its place that is named and not offered
 SELECT url_require('https://h/%s');
 SELECT url_require('https://h//a');
+SELECT url_require('tel:+1 2 ');
+SELECT url_require('http:a', 'http://h/');
 SELECT url_require('//', 'http://h/');
 SELECT url_require('http://münchen.de/' || repeat('ü', 500) || ' ' || repeat('ü', 500));
 DO $$ BEGIN PERFORM url_require('x'); EXCEPTION WHEN check_violation THEN RAISE NOTICE 'sqlstate %: %', SQLSTATE, SQLERRM; END $$;
 DO $$ BEGIN PERFORM url_rule('x', 'x'); EXCEPTION WHEN invalid_parameter_value THEN RAISE NOTICE 'sqlstate %: %', SQLSTATE, SQLERRM; END $$;
+-- functions of another type than the extension's
+CREATE FUNCTION url_check_as_text(text) RETURNS text AS '$libdir/urlcheck', 'pg_url_check' LANGUAGE C;
+SELECT url_check_as_text('http://h/');
+CREATE FUNCTION url_faults_as_text(text) RETURNS SETOF text AS '$libdir/urlcheck', 'pg_url_faults' LANGUAGE C;
+SELECT url_faults_as_text('http://h/');
+DROP FUNCTION url_check_as_text, url_faults_as_text;
 -- an error in a block leaves the base that was kept as it is
 DO $$
 DECLARE
