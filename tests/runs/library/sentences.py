@@ -90,7 +90,6 @@ class Sentences(Room):
         for name, text, module, said, status in (
             ("a.html", STYLE, "tinycss2", "styles aren't read, which needs " + TINYCSS2, 0),
             ("a.css", "", "tinycss2", "is CSS, which needs " + TINYCSS2, 2),
-            ("a.epub", packed({"a.css": ""}), "tinycss2", "has no reader", 2),
             ("a.md", "", "markdown_it", "is Markdown, which needs " + MARKDOWN, 2),
             ("a.mdx", "", "markdown_it", "is MDX, which needs " + MARKDOWN, 2),
             ("a.ipynb", '{"cells": [{"cell_type": "markdown", "source": "a"}]}', "markdown_it", "is a notebook, which needs " + MARKDOWN, 2),
@@ -100,6 +99,10 @@ class Sentences(Room):
             with self.subTest(name):
                 self.write(name, text)
                 self.says("{}: {}".format(name, said), "--list", name, status=status, program=without(module))
+        # (what of a book needs no package is read)
+        self.write("a.epub", packed({"a.css": "a { b: url(c) }", "b.css": "a { b: url(d) }", "c.html": "<a href='d'>"}))
+        self.says("a.epub: styles aren't read, which needs " + TINYCSS2, "--list", "a.epub", status=0, program=without("tinycss2"))
+        self.assertEqual(self.run_on("--list", "a.epub", program=without("tinycss2"))[1], b"a.epub/c.html:1:10:d\n")
         self.write("p/pyproject.toml", "[tool.urlcheck]\n")
         self.write("p/a.html", "")
         said = "{}: a configuration before Python 3.11 needs the package tomli: pip install tomli, or Debian's python3-tomli"
@@ -177,13 +180,18 @@ class Sentences(Room):
             ("a.html", '<a href="http://h/{{ a }}">', "a template"),
             ("a.html", '<a href="http://127.0.0.1/a b">', "with a host of numbers"),
             ("a.rss", "<rss><channel><link>http://h/a<![CDATA[b ^]]>c</link></channel></rss>", "with escapes of its document"),
-            ("a.rss", "<rss><channel><link>http://h/a b</link></rss>", "next to a link that would change"),
+            ("a.rss", "<rss><channel><link>http://h/a b</link></rss>", "in a document that can't be read to its end"),
             ("a.epub", packed({"a.html": '<a href="http://h/a b">'}), "in a book"),
         ):
             with self.subTest(why):
                 self.write(name, text)
                 said = self.run_on("--fix", name)[2].decode().splitlines()
                 self.assertEqual(said[-2], "urlcheck-documents: 1 link isn't fixed: 1 " + why)
+        # (no document is known in which this is so, so the guard is told that it is)
+        changing = beginning("from urlcheck._fixes import fixing", "fixing.are_read_alike = lambda *_: False")
+        self.write("a.html", '<a href="http://h/a b">')
+        said = self.run_on("--fix", "a.html", program=changing)[2].decode().splitlines()
+        self.assertEqual(said[-2], "urlcheck-documents: 1 link isn't fixed: 1 next to a link that would change")
 
     def test_help(self):
         """Each text of the help is as it is stored, in which a line ends after 80 columns at the latest."""

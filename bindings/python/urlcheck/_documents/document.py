@@ -10,7 +10,7 @@ from typing import Counter as Counts
 from typing import Iterator, List, Optional, Tuple
 
 from .._fixes.edits import Edit
-from .._fixes.fixing import CHANGING, IN_BOOK, UNSAFE, Fixing, fixed, more_texts, why_left
+from .._fixes.fixing import CHANGING, IN_BOOK, UNREAD, UNSAFE, Fixing, fixed, more_texts, why_left
 from .._readers.kinds import ARCHIVES, PACKAGES, is_list
 from .._readers.reading import MOST_BYTES, Found, Reading, Unread, found_in
 from .._readers.source import Broken, Foreign, Link
@@ -210,7 +210,8 @@ class Document:
             return
         # (a document that can't be read to its end, or is read otherwise after its edits, is never written)
         if edits or found.broken is not None:
-            left, more = Counter({CHANGING: len(edits)}) + left, 0
+            why = CHANGING if found.broken is None else UNREAD
+            left, more = Counter({why: len(edits)}) + left, 0
         yield found, Taken(documents=1, unsafe=more, left=left)
 
     def _edits(self, found: Found, fixing: Fixing) -> Tuple[List[Edit], List[Edit], Counts[str]]:

@@ -54,6 +54,7 @@ UNSAFE = "perhaps another URL"
 
 IN_BOOK = "in a book"
 CHANGING = "next to a link that would change"
+UNREAD = "in a document that can't be read to its end"
 _NOT_OFFERED = "with nothing offered"
 _TEMPLATE = "a template"
 _NUMBERED = "with a host of numbers"

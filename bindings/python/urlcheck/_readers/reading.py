@@ -148,4 +148,8 @@ def _found_in_archive(data: bytes, reading: Reading) -> Iterator[Found]:
         except Foreign as foreign:
             before = foreign.before
             found = Found(before, [], (), Broken(len(before.text), str(foreign)))
+        except ImportError:
+            # (only a style sheet needs a package; the rest of the book is read)
+            has_links = css_links.NEEDED.search(held.decode("latin-1"))
+            found = Found(Source(""), [], (), notes=(css_links.MISSING,) if has_links else ())
         yield found._replace(inner=name)
