@@ -107,27 +107,30 @@ def tried(end_of: str, option: str, text: Callable[[int], str]) -> str:
     while taken < LEAST_SECONDS and len(text(count)) < MOST_POINTS:
         count = count * 2 if taken < LEAST_SECONDS / 4 else int(count * 1.5)
         taken = measured(count) - least
+        if taken >= LEAST_SECONDS:
+            # (once more, as another program may have taken the time)
+            taken = min(taken, measured(count) - least)
     if taken < LEAST_SECONDS:
         return ""
     for times, most in MOST_TIMES:
-        taken, longer = compared(measured, count, times, least, most)
+        taken, longer = compared(measured, count, times, most)
         if longer > most * taken:
-            return "{} times as many as {} take {:.1f} times as long as {:.2f} s".format(times, count, longer / taken, taken)
+            return "{} times as many as {} take {:.2f} s in place of {:.2f}".format(times, count, longer, taken)
     return ""
 
 
-def compared(
-    measured: Callable[[int], float], count: int, times: int, least: float, most: float
-) -> Tuple[float, float]:
-    """The least that a document takes, and one that is so many times as long, of runs of one after the other: what other
-    programs add to the time comes and goes, and what grows faster than the text does so each time."""
-    taken = longer = float("inf")
+def compared(measured: Callable[[int], float], count: int, times: int, most: float) -> Tuple[float, float]:
+    """The least that a document takes, and one that is so many times as long, beside the least that a document without
+    content takes, of runs of one after the other: what other programs add to the time comes and goes, and what grows
+    faster than the text does so each time."""
+    least = taken = longer = float("inf")
     for _ in range(MOST_RUNS):
-        taken = min(taken, measured(count) - least)
-        longer = min(longer, measured(count * times) - least)
-        if longer <= most * taken:
+        least = min(least, measured(1))
+        taken = min(taken, measured(count))
+        longer = min(longer, measured(count * times))
+        if longer - least <= most * (taken - least):
             break
-    return taken, longer
+    return taken - least, longer - least
 
 
 def main() -> None:
