@@ -1,7 +1,7 @@
 #!/usr/bin/env bash
 # `urlcheck lint --all` on one line of 65,536 bytes of which each code point is wrong, in each format: what is written
-# has at most 100 MB, and the peak of resident memory is below 10 MB. It fails when a bound is broken, a status isn't
-# right for a refused line, a diagnostic is missing or no figure was taken.
+# has at most 105 MB, and the peak of resident memory is below 10 MB. It fails when a bound is broken, a status isn't
+# right for a refused line, a diagnostic is missing or no figure was taken. The gate runs it (tests/runs/costs.sh).
 # Usage: bench/wrong_line.sh [--program FILE]
 set -euo pipefail
 top=$(dirname "$(dirname "$(realpath "$0")")")
@@ -47,7 +47,7 @@ linted() {
     printf '%s, %s: %d bytes, a peak of %s KiB\n' "$1" "$3" "$bytes" "$peak"
     figures=$((figures + 1))
     [ $status = 1 ] || { echo "FAILED: status $status: $(cat "$room/said")"; failed=1; }
-    ((bytes > 65536 && bytes <= 100000000)) || { echo 'FAILED: too much is written, or too little'; failed=1; }
+    ((bytes > 65536 && bytes <= 105000000)) || { echo 'FAILED: too much is written, or too little'; failed=1; }
     ((found >= 65000)) || { echo "FAILED: $found diagnostics"; failed=1; }
     [ -n "$peak" ] && ((peak > 0 && peak < 10000)) || { echo "FAILED: the memory isn't below 10 MB"; failed=1; }
 }

@@ -1,7 +1,7 @@
 #!/usr/bin/env bash
 # Counts what the program given as the first argument takes, as the pages name it: instructions by callgrind. Lines of each kind in
 # `costs.txt` next to this file cost at most what is written there, with 5 % of slack, and what `lint --all` and `check --all` take of
-# one line grows no faster than the line. Each is counted where `valgrind` is installed.
+# one line grows no faster than the line. A report on the worst line is no longer than it may be. All needs `valgrind`.
 . "$(dirname "$(realpath "$0")")/start.sh"
 needs costs valgrind python3
 here=$top/tests/runs
@@ -55,6 +55,11 @@ while read -r kind most words; do
     read -ra words <<<"$words"
     bound "$kind" "$most" "${words[@]}"
 done < <(sed 's/#.*//; /^ *$/d' "$here/costs.txt")
+
+# ---- what is written of the worst line, and in how much memory
+
+bash "$top/bench/wrong_line.sh" --program "$program" >"$room/worst" || wrong "$(grep -B1 FAILED "$room/worst")"
+echo "costs: $(grep -c ' bytes, a peak of ' "$room/worst") reports on a line of 65,536 wrong bytes"
 
 # ---- one line, of each shape in which each code point, or many, are refused
 
