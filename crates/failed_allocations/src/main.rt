@@ -272,7 +272,7 @@ fn print_page<R: Print>(rt: &R, page: &[u8], room: usize) -> io::Result<()> {
     print!(rt; "{text}")
 }
 
-// The end of a call whose answer was printed. If that failed, nothing is said about the call.
+// The end of a call whose answer was printed. If it failed, the program prints nothing about the call.
 fn printed(outcome: io::Result<()>) -> End {
     match outcome {
         Ok(()) => End::Answered,

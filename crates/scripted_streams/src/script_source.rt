@@ -79,7 +79,7 @@ impl Source for ScriptSource<'_> {
 
     ghost failed = { λ s. s.failures };
 
-    /// Answers as the list says. Of a piece that is longer than the room, the rest comes at the next read.
+    /// Answers as the list says. If a piece is longer than the room, its rest comes at the next read.
     fn read(&mut self, into: &mut [u8]) -> Result<usize, DeviceFault>
         requires { self.old.failures < 2 ^ 64 - 1 }
         ensures plays { PlaysRead self.old.answers (length into.old) result self.new.answers }

@@ -19,7 +19,7 @@ fn has_segments(path: &UrlPath, first: &str, second: Option<&str>) -> bool {
     }
 }
 
-// Whether each field is that of `foo://u%40h:80/a/?q#f` (URL Standard, section 4.1).
+// Whether each field is as in the record of `foo://u%40h:80/a/?q#f` (URL Standard, section 4.1).
 fn is_opaque_host_record(record: &Record) -> bool {
     let host = match record.host() {
         Some(Host::Opaque(text)) => text.as_str() == "u%40h",
@@ -31,8 +31,8 @@ fn is_opaque_host_record(record: &Record) -> bool {
         && has_ends(record, "q", "f")
 }
 
-// Whether each field is that of `https://EXAMPLE.com:443/a/../b?x='y'#é`: the scheme, the domain, the segment, the
-// query and the fragment that it denotes.
+// Whether each field is as in the record of `https://EXAMPLE.com:443/a/../b?x='y'#é`: the scheme, the domain, the
+// segment, the query and the fragment that it denotes.
 fn is_domain_record(record: &Record) -> bool {
     let host = match record.host() {
         Some(Host::Domain(form)) => form.as_str() == "example.com",

@@ -140,7 +140,7 @@ fn answers_on_each_byte_at_each_place(rt: HostRuntime) -> Result<(), AllocError>
     Ok(())
 }
 
-// What is said about a name without ToASCII, which has to be asked about a name that is unknown.
+// The answer about a name without ToASCII, which has to be asked about an unknown name.
 fn answer_name(name: &str, profile: Profile) -> &'static str {
     match plain_answer(name, profile) {
         Some(PlainAnswer::Domain) => "domain",

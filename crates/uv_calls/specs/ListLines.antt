@@ -1,4 +1,4 @@
--- What is said of a line of a list.
+-- The answer about a line of a list.
 use Rattle.uv_calls.specs.declared.list_lines.Outcome.{Outcome}
 use Rattle.uv_calls.specs.declared.list_lines.Outcome.TheVariants as outcome
 use Rattle.uv_links.specs.Report.{Said, Same, Refused, NotUtf8, TooLong, Differs}

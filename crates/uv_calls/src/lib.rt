@@ -1,5 +1,5 @@
-//! Calls of the specification that the program doesn't make: whether parts make a record, a set of bytes that is made of
-//! ranges, a line of a report as a text, and a run over vectors without reasons. They are in a crate above what they
+//! Calls of the specification that the program doesn't make: whether parts make a record, a set of bytes that is made
+//! of ranges, a line of a report as a text, and a run over vectors without reasons. They are in a crate above what they
 //! need, so that no build of the program proves them first.
 #![tactic(auto)]
 

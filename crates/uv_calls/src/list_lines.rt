@@ -7,10 +7,10 @@ use itoa::Buffer;
 use std::alloc::{AllocError, Global};
 use uv_model::Refusal;
 
-/// What is said of a line of a list.
+/// The answer about a line of a list.
 #[derive(Clone, Copy)]
 pub enum Outcome<'a> {
-    /// It is accepted, and the second parser reads it as the same text, which is that of its record.
+    /// It is accepted, and the second parser reads it as the same text, which is the text of its record.
     Good(&'a str),
     /// It is refused.
     Bad(Refusal),

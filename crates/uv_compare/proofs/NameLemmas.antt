@@ -94,6 +94,6 @@ in_name_rows =
     of_rows is_name_byte NAME_ROWS
     (λ b small. agree_below_at (is_in_rows NAME_ROWS) is_name_byte 256 b refl small)
 
--- so the longest run of bytes in the rows has bytes of a name alone
+-- so the longest run of bytes in the rows has only bytes of a name
 pub run_named : (bytes : List ℕ) → All (Passes is_name_byte) (take (prefix_len (is_in_rows NAME_ROWS) bytes) bytes)
 run_named bytes = prefix_all (is_in_rows NAME_ROWS) is_name_byte in_name_rows bytes

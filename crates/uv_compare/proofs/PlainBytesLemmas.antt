@@ -17,7 +17,7 @@ in_plain_rows =
     of_rows is_plain_byte PLAIN_ROWS
     (λ b small. agree_below_at (is_in_rows PLAIN_ROWS) is_plain_byte 256 b refl small)
 
--- no dot begins the bytes, nor its escape, where their first byte is no such one
+-- no dot begins the bytes, nor its escape, where their first byte doesn't begin one
 undotted : (bytes : List ℕ) → may_be_dot (get_or bytes 0 0) ≡ false → dot_len bytes ≡ 0
 undotted bytes none =
     let parts = or_parts (get_or bytes 0 0 == dot) (get_or bytes 0 0 == percent_sign) none in

@@ -14,7 +14,7 @@ abbrev pub parsed : Result Parts ParseError → Option Parts
 parsed (Ok url) = Some url
 parsed (Err error) = None
 
--- the base as the second parser reads its text, which it reads alone
+-- the base as the second parser reads its text by itself
 abbrev pub second_base : Option Url → Option Parts
 second_base None = None
 second_base (Some base) = parsed (parse_url None (serial base))

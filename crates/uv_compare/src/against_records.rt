@@ -26,8 +26,8 @@ pub fn reading(alloc: Global, base: Option<&Record>, text: &str) -> Result<Optio
     }
 }
 
-/// Whether the second parser reads both texts as URLs with the same text, against the text of the base if there is one. Most
-/// mended texts are the text of their URL, and of those no parse is needed to see it.
+/// Whether the second parser reads both texts as URLs with the same text, against the text of the base if there is one.
+/// Most mended texts are the text of their URL, and of those no parse is needed to see it.
 #[tactic(auto, unfolding(crate::specs::Second::second_serial))]
 pub fn reads_same(
     alloc: Global,

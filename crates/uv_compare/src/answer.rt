@@ -9,8 +9,9 @@ use std::alloc::Global;
 use url::{ParseError, ParseResult, Url};
 
 /// The URL that the second parser makes of a text, alone or against a base, if the URL's text is the written one; none
-/// if it makes another one, or refuses the text.
+/// if it makes another one, or refuses the text. It is inlined, so that the URL isn't copied where it is only compared.
 #[tactic(auto, unfolding(crate::specs::Second::second_serial, crate::specs::Second::text_against))]
+#[inline(always)]
 pub fn read_as(
     alloc: Global,
     base: Option<&Url>,

@@ -17,8 +17,8 @@ use Rattle.uv_filter.specs.declared.setting.WrittenKinds.{WrittenKinds}
 use Rattle.uv_filter.specs.declared.setting.WrittenKinds.TheVariants.{Every, Safe, Only}
 use Rattle.uv_filter.specs.Lines.{Line, checked_of, replaced, text_of, whole}
 
--- by what lines are mended: the profile, the base, the kinds of the mended texts that are written, and whether those are
--- written too that aren't offered
+-- by what lines are mended: the profile, the base, the kinds of the mended texts that are written, and whether those
+-- are written too that aren't offered
 pub record Mender : Type 0 where
   pub profile : Profile
   pub base : Option Url
@@ -49,8 +49,9 @@ takes Safe kind.Changed = false
 takes Safe _ = true
 takes (Only wanted) found = is_kind wanted found
 
--- The text has no mended one, or one that isn't written: it is of another kind than is asked for, or not all are written,
--- but only those that are offered. Whether one is offered is a judgement of what was meant, of which nothing is said here.
+-- The text has no mended one, or one that isn't written: it is of another kind than is asked for, or not all are
+-- written, but only those that are offered. Whether one is offered is a judgement of what was meant, which this leaves
+-- open.
 abbrev pub StaysRefused : Mender → List ℕ → Type 0
 StaysRefused mender text =
     ((refusal : Refusal) × IsMending mender.profile mender.base text (answer.Refused refusal))

@@ -22,9 +22,8 @@ use uv_lines::{LineFault, ReportFault, StopFault, take_list};
 /// Each end is kept. A byte order mark at the list's start isn't a part of the first text, and is kept too. A line
 /// isn't checked if it is empty, isn't UTF-8 or has more than 65,536 bytes without its end. The lines that a read has
 /// ended are written before the next read, and so is all that was read of a line that is too long: memory doesn't grow
-/// with the list. The writer isn't flushed. The counts are those of the lines that were written, even after a fault.
-/// After a fault nothing is tried again, and how far the reader was read is left open. `StopFault::TooManyLines` never
-/// comes.
+/// with the list. The writer isn't flushed. The lines that were written are counted, even after a fault. After a fault
+/// nothing is tried again, and how far the reader was read is left open. `StopFault::TooManyLines` never comes.
 pub fn run_filter<R: Source, W: Sink>(
     alloc: Global,
     reader: &mut R,
@@ -53,7 +52,7 @@ pub fn run_filter<R: Source, W: Sink>(
     }
 }
 
-// The fault of a run, by that of its list.
+// The fault of a run, by the fault of its list.
 fn fault_of_list(fault: LineFault<ReportFault<AllocError>>) -> StopFault
     ensures { result ≡ spec.fault_of_list fault }
 {

@@ -32,7 +32,7 @@ form_byte : (signed : Bool) (c : ℕ) → goes_on signed c ≡ true → is_form_
 form_byte true c h = grind (arith, nat_tests)
 form_byte false c h = grind (arith, nat_tests)
 
--- a chain holds a form's code points alone
+-- a chain holds only a form's code points
 pub chain_form : (signed : Bool) (text : List ℕ) → is_chain signed text ≡ true
     → list_all (is_form_code_point Standard) text ≡ true
 chain_form signed [] h = refl
@@ -233,7 +233,7 @@ root_parts (c ∷ rest) stop =
 full_stop_form : is_form_code_point Standard full_stop ≡ true
 full_stop_form = refl
 
--- a name with a full stop after it or without one holds a form's code points alone
+-- a name with a full stop after it or without one holds only a form's code points
 pub rooted_form : (name : List ℕ) → is_rooted_chain name ≡ true
     → list_all (is_form_code_point Standard) name ≡ true
 rooted_form name h = elim (cases_Bool (is_full_stop (slice_index name (length name - 1)))) [

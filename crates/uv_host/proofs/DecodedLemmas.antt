@@ -29,7 +29,7 @@ use Rattle.uv_model.proofs.Hosts.ParserForms.{not_utf8}
 
 -- ---- what ToASCII takes
 
--- so ToASCII takes UTF-8 alone
+-- so ToASCII takes only UTF-8
 utf8_taken : (bytes form : List ℕ) → domain_to_ascii EMPTY bytes ≡ Some form → is_utf8 bytes ≡ true
 utf8_taken bytes form e =
     elim (cases_Bool (is_utf8 bytes)) [

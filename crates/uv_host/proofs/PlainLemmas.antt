@@ -91,7 +91,7 @@ plain_permitted_byte b h =
     let small = h.0 in
     grind (arith, nat_tests)
 
--- a plain name holds permitted bytes alone
+-- a plain name holds only permitted bytes
 pub plain_permitted : (name : List ℕ) → IsPlain STD3 Check name → has_permitted Standard name ≡ true
 unfolding has_permitted
 plain_permitted name p =

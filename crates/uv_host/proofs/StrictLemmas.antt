@@ -51,7 +51,7 @@ map_weaker : {B : Type 0} (y : B) (o p : Option (List B)) (zs : List B)
 map_weaker y None p zs h is = absurd (none-some zs is)
 map_weaker y (Some ys) p zs h is = ap (option_map (λ ys. y ∷ ys)) (h ys refl) ∙ is
 
--- what a function gives over a list another gives that gives the same of each value
+-- what a function gives over a list is given by another function that agrees with it on each value
 each_weaker : {A B : Type 0} (f g : A → Option B) → ((x : A) (y : B) → f x ≡ Some y → g x ≡ Some y)
     → (xs : List A) (ys : List B) → each f xs ≡ Some ys → each g xs ≡ Some ys
 unfolding each
@@ -85,7 +85,7 @@ pub allowed_hyphens : (label : List ℕ) → passes_hyphens Check label ≡ true
 unfolding passes_hyphens
 allowed_hyphens label placed = rw (has_ace_prefix-passes Check label placed) refl
 
--- a label that the strict settings take is taken at those of the URL parser
+-- a label that the strict settings take is taken at the URL parser's settings
 allowed_in_nfc : (label : List ℕ) → passes_in_nfc STD3 Check label ≡ true → passes_in_nfc EMPTY Allow label ≡ true
 unfolding passes_in_nfc
 allowed_in_nfc label valid =
@@ -126,7 +126,7 @@ allowed_utf8 bytes labels is =
       | inr other ↦ absurd (none-some _ (sym (cond-false _ _ None other) ∙ is))
     ]
 
--- what ToASCII gives at its strict settings it gives at those of the URL parser
+-- what ToASCII gives at its strict settings it gives at the URL parser's settings
 pub allowed_form : (bytes form : List ℕ) → to_ascii STD3 Check Ignore bytes ≡ Some form
     → to_ascii EMPTY Allow Ignore bytes ≡ Some form
 allowed_form bytes form strict =

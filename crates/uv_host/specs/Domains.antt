@@ -59,8 +59,8 @@ pub record HasFormByLengths (profile : Profile) (text form : List ℕ) : Type 0 
   pub fits : fits_lengths profile form ≡ true → IsForm profile text form
   pub wrong : fits_lengths profile form ≡ false → HasNoForm profile text
 
--- ToASCII leaves the name as it is: at its strict settings under the standard profile, and at those of the URL parser,
--- of code points of a form, by the others
+-- ToASCII leaves the name as it is: at its strict settings under the standard profile, and under the others at the
+-- settings of the URL parser, of code points of a form
 abbrev pub IsOwnForm : Profile → List ℕ → Type 0
 IsOwnForm Standard name = IsPlain STD3 Check name
 IsOwnForm profile name =

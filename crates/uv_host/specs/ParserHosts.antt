@@ -36,7 +36,7 @@ taken_form bytes = taken (domain_to_ascii EMPTY bytes)
 abbrev pub IsByteText : List ℕ → ℕ → Type 0
 IsByteText text n = (n < 256) × (text ≡ decimal n)
 
--- digits alone, of which the first is `0` only when it is the only one
+-- only digits, of which the first is `0` only when it is the only one
 abbrev pub is_shortest : List ℕ → Bool
 is_shortest [] = false
 is_shortest (only ∷ []) = is_ascii_digit only

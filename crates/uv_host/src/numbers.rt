@@ -39,7 +39,7 @@ fn weighed_value(text: &str, more: usize) -> Option<u32>
     }
 }
 
-// How much the first of several numbers counts if at most this many follow it.
+// The factor of the first of several numbers if at most this many follow it.
 fn weight_of(more: usize) -> u32
     requires { more ≤ 3 }
     ensures { result ≡ weight_of more }

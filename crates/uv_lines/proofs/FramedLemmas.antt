@@ -346,13 +346,13 @@ ended P P' limits begin end last (Err e) result old mid now new read at_end q be
 
 -- ---- failed reads and writes
 
--- those of a run over lines, by its answer, where so many have failed before
+-- the failed reads and writes of a run over lines, by its answer, where so many have failed before
 abbrev pub Stops : {F : Type 0} → Result (Unit {0}) (LineFault F) → ℕ → ℕ → ℕ → ℕ → Type 0
 Stops (Ok u) reads reads' writes writes' = (reads' ≡ reads) × (writes' ≡ writes)
 Stops (Err e) reads reads' writes writes' =
     (reads' ≡ reads + reads_failed e) × (writes' ≡ writes + writes_failed e)
 
--- and those of one in a frame
+-- the failed reads and writes of a run in a frame
 abbrev pub Fails : {F : Type 0} → List ℕ → Result (Unit {0}) (LineFault F) → ℕ → ℕ → ℕ → ℕ → Type 0
 Fails end (Ok u) reads reads' writes writes' = (reads' ≡ reads) × (writes' ≡ writes)
 Fails end (Err e) reads reads' writes writes' = FailsReads end e reads reads' × (writes' ≡ writes + writes_failed e)
@@ -424,7 +424,7 @@ fails last end (Ok u) result now new reads reads' writes writes' writes'' stop (
 fails last end (Err e) result now new reads reads' writes writes' writes'' stop follows =
     fails_after end e result now new reads reads' writes writes' writes'' (is_write e) refl stop follows
 
--- ---- from the clauses of the calls, and to those of a run
+-- ---- from the clauses of the calls to the clauses of a run
 
 -- what a run over lines leaves
 pub ran : {S F : Type 0} (P P' : List (List ℕ) → List ℕ → S → Type 0) (limits : LineLimits)

@@ -1,4 +1,4 @@
--- Where a run is when a line has ended or gone on, and what its faults leave.
+-- The state of a run when a line has ended or gone on, and what its faults leave.
 use Rattle.std.proofs.Common.{◌≡◌, ℕ, ◌+◌, ◌<◌, ◌≤◌, List, [], ◌∷◌, ◌++◌, Option, length, take, refl, sym, ap, ◌∙◌}
 use Rattle.std.proofs.Common.{subst, arith, append_assoc, append-nil, inl, inr}
 use Rattle.std.proofs.lemmas.List.{length-append, length-take}
@@ -129,7 +129,7 @@ many-left reports lines n most start said read rest p begun h full more =
       rw count (lines_more read rest more),
     )
 
--- of a further line nothing was said, or the first parts of what is said of it
+-- a further line has no report yet, or the first parts of one
 begun_report : {S : Type 0} (reports : S → Option (List ℕ) → List ℕ → S → Type 0)
     (begins : S → Option (List ℕ) → List ℕ → Type 0) (n : ℕ) (start : S) (ls : List (List ℕ)) (line : List ℕ)
     (said parts : List ℕ) (p : S) (more all : List (List ℕ)) → Reported reports n start ls said p
@@ -221,7 +221,7 @@ last_lines : {S : Type 0} (reports : S → Option (List ℕ) → List ℕ → S 
 last_lines reports lines n start said read p begun h some =
     ap (λ l. closed_lines read ++ l) (open_cons (split read).1 (begun_some (n + 2) begun (split read).1 h.kept some))
 
--- what is kept of it decides what is said of it
+-- what is kept of it decides the report on it
 last_line : {S : Type 0} (reports : S → Option (List ℕ) → List ℕ → S → Type 0) (lines : S → ℕ) (n : ℕ)
     (start : S) (said read : List ℕ) (p : S) (begun : List ℕ) → Stands reports lines n start said read p begun
     → short_line n begun ≡ short_line n (split read).1

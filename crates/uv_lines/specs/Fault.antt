@@ -1,4 +1,4 @@
--- Which faults of a run are those of a write, after which nothing more is written, and how many failed calls they are.
+-- Which faults of a run are faults of a write, after which nothing more is written, and how many failed calls they are.
 use Rattle.std.specs.Prelude.{ℕ, Bool, true, false, not, Result, Ok, Err}
 use Rattle.uv_lines.specs.declared.fault.LineFault.{LineFault}
 use Rattle.uv_lines.specs.declared.fault.LineFault.TheVariants.{Own, Stop}

@@ -1,4 +1,4 @@
--- A run whose report is in a frame: what the frame begins with, what is said of the lines, what the reporter says after
+-- A run whose report is in a frame: what the frame begins with, the reports on the lines, what the reporter says after
 -- the last of them if no fault came, and what the frame ends with, after each fault but one of a write.
 use Rattle.std.specs.Prelude.{◌≡◌, ◌≢◌, ℕ, ◌+◌, ◌⊎◌, Bool, true, false, List, [], ◌++◌, Option, Result, Ok, Err, take}
 use Rattle.std.specs.Io.KnownBytes.{Appends}

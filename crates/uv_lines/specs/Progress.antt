@@ -1,4 +1,4 @@
--- Where a run is between two pieces, and what its faults leave.
+-- The state of a run between two pieces, and what its faults leave.
 use Rattle.std.specs.Prelude.{◌≡◌, ℕ, ◌+◌, ◌≤◌, ◌<◌, Bool, true, false, List, Option, length, take}
 use Rattle.std.specs.Str.Lines.{strip_carriage_return}
 use Rattle.uv_lines.specs.declared.fault.LineFault.{LineFault}
@@ -8,8 +8,8 @@ use Rattle.uv_lines.specs.declared.limits.LineLimits.{LineLimits}
 use Rattle.uv_lines.specs.Lines.{split, closed_lines, lines_of}
 use Rattle.uv_lines.specs.Reported.{Reported, ReportedPart}
 
--- The run has read these bytes and said a text: of the begun line a prefix is kept, which decides what is said of it;
--- the text is the report on each line that an LF ended.
+-- The run has read these bytes and said a text: of the begun line a prefix is kept, which decides the report on it; the
+-- text is the report on each line that an LF ended.
 pub record Stands {S : Type 0} (reports : S → Option (List ℕ) → List ℕ → S → Type 0) (lines : S → ℕ)
     (line_bytes : ℕ) (start : S) (said read : List ℕ) (now : S) (begun : List ℕ) : Type 0 where
   pub reported : Reported reports line_bytes start (closed_lines read) said now

@@ -12,8 +12,8 @@ Reported {S} reports line_bytes start (line ∷ lines) text now =
     (prefix : List ℕ) × (rest : List ℕ) × (next : S) × reports start (short_line line_bytes line) prefix next
     × Reported reports line_bytes next lines rest now × (text ≡ prefix ++ rest)
 
--- The lines before the last one were reported on, and of that the first parts were said alone: the reporter is as it
--- was before that line.
+-- The lines before the last one were reported on, and of that only the first parts were said: the reporter is as it was
+-- before that line.
 pub record ReportedBegun {S : Type 0} (reports : S → Option (List ℕ) → List ℕ → S → Type 0)
     (begins : S → Option (List ℕ) → List ℕ → Type 0) (line_bytes : ℕ) (start : S) (lines : List (List ℕ))
     (text : List ℕ) (now : S) : Type 0 where

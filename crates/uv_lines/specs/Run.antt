@@ -38,7 +38,7 @@ WroteLines IsReport old read at_end now new =
     × WroteFirst IsReport old read count now new
 
 -- What a fault of a run leaves, when these bytes were read. If the reporter can't report on a line, or a write fails
--- within one, what was written is a part of a report: the last of its lines may have been begun alone.
+-- within one, what was written is a part of a report, of which the last line may only have been begun.
 abbrev pub Leaves : {S F : Type 0} → (List (List ℕ) → List ℕ → S → Type 0) → (List (List ℕ) → List ℕ → S → Type 0)
     → LineLimits → LineFault F → Option (List ℕ) → List ℕ → Type 0 → S → Option (List ℕ) → Type 0
 Leaves IsReport IsPart limits (Own fault) old read at_end now new = WroteLines IsPart old read at_end now new

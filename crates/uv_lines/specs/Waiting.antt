@@ -1,4 +1,4 @@
--- What is said of a line, and how it comes to the writer.
+-- The report on a line, and how it comes to the writer.
 use Rattle.std.specs.Prelude.{◌≡◌, ℕ, ◌+◌, ◌⊎◌, List, [], ◌++◌, Option, take}
 use Rattle.std.specs.Io.KnownBytes.{Appends}
 use Rattle.uv_lines.specs.declared.fault.ReportFault.{ReportFault}
@@ -23,13 +23,13 @@ pub record Adds {S : Type 0} (reports : S → Option (List ℕ) → List ℕ →
   pub count : lines after ≡ lines before + 1
   pub passes : Passes (waited ++ said) old new waits
 
--- nothing is said of a line, or the parts with which a reporter begins what it says of it
+-- a reporter says nothing of a line, or the parts with which it begins what it says of it
 abbrev pub AreFirstParts : {S : Type 0} → (S → Option (List ℕ) → List ℕ → Type 0) → S → Option (List ℕ) → List ℕ
     → Type 0
 AreFirstParts begins before line parts = (parts ≡ []) ⊎ begins before line parts
 
--- what a fault leaves of what waited before and of such parts of what is said: all of it is written or waits, or after
--- a failed write a prefix of it is written
+-- what a fault leaves of what waited before and of such parts of a report: all of it is written or waits, or after a
+-- failed write a prefix of it is written
 abbrev pub LeavesParts : {F : Type 0} → (List ℕ → Type 0) → ReportFault F → List ℕ → Option (List ℕ) → List ℕ
     → Option (List ℕ) → Type 0
 LeavesParts AreParts (Reporter fault) waited old waits new =
@@ -37,7 +37,7 @@ LeavesParts AreParts (Reporter fault) waited old waits new =
 LeavesParts AreParts Write waited old waits new =
     (parts : List ℕ) × AreParts parts × CutsOff (waited ++ parts) old new
 
--- what a fault leaves of what waited before and of the first parts of what is said of a line
+-- what a fault leaves of what waited before and of the first parts of the report on a line
 abbrev pub LeavesLine : {S F : Type 0} → (S → Option (List ℕ) → List ℕ → Type 0) → ReportFault F → S → List ℕ
     → Option (List ℕ) → Option (List ℕ) → List ℕ → Option (List ℕ) → Type 0
 LeavesLine begins fault before waited old line waits new =

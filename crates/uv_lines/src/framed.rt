@@ -40,7 +40,7 @@ impl Frame<'static> {
 /// line.
 ///
 /// A line ends with LF, and one CR before that isn't a part of it; a last part without LF is a line if it isn't empty.
-/// What is said about the lines that a read has ended is written before the next read, and no more than 262,143 bytes
+/// The report on the lines that a read has ended is written before the next read, and no more than 262,143 bytes
 /// wait when a line or a part has ended. What the reporter says after the last line is written if no fault came. The
 /// frame's end is written after every fault except a failed write, even if the reporter failed between two parts of a
 /// line. The writer isn't flushed. After a fault nothing is tried again, and how far the reader was read is left open.
@@ -108,7 +108,7 @@ fn write_end<W: Sink, T: Reporter>(
     }
 }
 
-// Writes what is said after the last line, and then the end.
+// Writes what the reporter says after the last line, and then the end.
 fn write_last<W: Sink, F: Drop>(writer: &mut W, last: &[u8], end: &[u8]) -> Result<(), LineFault<F>>
     requires { W.failed writer.old < 2 ^ 64 - 1 }
     ensures { (u : Unit {0}) → Follows (last.now ++ end.now) (Ok u) result (W.contents writer.old)

@@ -1,4 +1,4 @@
-//! The lines of a list, read piece by piece, each reported on when it ends. What is said about a line may be written in
+//! The lines of a list, read piece by piece, each reported on when it ends. The report on a line may be written in
 //! parts.
 #![tactic(auto)]
 

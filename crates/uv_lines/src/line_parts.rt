@@ -1,4 +1,4 @@
-//! Where a line ends, and which part of it is its text.
+//! The end of a line, and which part of it is its text.
 ghost use Rattle.std.specs.Prelude.{◌≡◌, ◌+◌, ◌<◌, [], ◌∷◌, IfSome, None, drop, length, take};
 ghost use Rattle.std.specs.Str.Lines.{strip_carriage_return};
 ghost use Rattle.uv_lines.specs.Lines as spec;

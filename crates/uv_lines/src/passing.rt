@@ -1,4 +1,4 @@
-//! The lines of a list passed on: what is said about the lines of a piece is written before the next one is read.
+//! The lines of a list passed on: the report on the lines of a piece is written before the next piece is read.
 ghost use Rattle.std.specs.Prelude.{◌≡◌, ℕ, ◌+◌, ◌-◌, ◌^◌, ◌<◌, [], false};
 ghost use Rattle.uv_lines.specs.declared.limits.LineLimits.{LineLimits};
 ghost use Rattle.uv_lines.specs.Fault as spec;
@@ -68,7 +68,7 @@ impl<R: Reporter> Taker for Progress<R> {
         }
     }
 
-    // What is said about the last line is written even if the report on it isn't whole.
+    // The report on the last line is written even if the report on it isn't whole.
     fn end_list<W: Sink>(
         &mut self,
         alloc: Global,

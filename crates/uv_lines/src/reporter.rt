@@ -27,8 +27,8 @@ pub trait Reporter: Drop {
     ghost begins: { Self → Option (List ℕ) → List ℕ → Type 0 };
 
     /// Appends what the report says of the next line to the text that waits to be written. It may end parts of it
-    /// (`end_part`), so that little waits however much is said about a line. None stands for a line that has more bytes
-    /// than a line may have.
+    /// (`end_part`), so that little waits however long the report on a line is. None stands for a line that has more
+    /// bytes than a line may have.
     ///
     /// After a fault the reporter is as it was. After a fault of its own, either nothing was added to what waits, or
     /// whole parts of what it says about the line. After a failed write, a prefix of that was written.
@@ -56,7 +56,7 @@ pub trait Reporter: Drop {
     // What it says after the last line, if no fault came.
     ghost last: { Self → List ℕ };
 
-    /// What is said after the last line, if no fault came.
+    /// The end of the report, if no fault came.
     fn last(&self, alloc: Global) -> Result<String, Self::Fault>
         ensures { IfOk result (λ text. string_bytes text ≡ last self.now) };
 }

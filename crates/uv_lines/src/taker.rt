@@ -8,7 +8,7 @@ use crate::line::Line;
 use std::alloc::Global;
 use uv_io::Sink;
 
-/// What takes the lines of a list and the parts of lines that no piece ends, and writes the output for them.
+/// Takes the lines of a list, and the parts of lines that go on in the next piece, and writes the output for them.
 ///
 /// A fault leaves nothing that waits to be written, unless a write failed.
 pub trait Taker {

@@ -1,4 +1,4 @@
-//! What is said about lines and waits to be written.
+//! The report on lines, as far as it waits to be written.
 ghost use Rattle.std.specs.Prelude.{◌≡◌, ℕ, ◌+◌, ◌-◌, ◌^◌, ◌<◌, [], OnOk, OnErr, length, take};
 ghost use Rattle.std.specs.Io.KnownBytes.{Appends};
 ghost use Rattle.uv_lines.specs.Waiting.{Passes};

@@ -59,7 +59,7 @@ cut_step c rest goes =
       ap (λ (r : List ℕ × Option (List ℕ)). r.1) hash,
     )
 
--- and so do those of a scheme
+-- and so do the bytes of a scheme
 scheme_goes : (c : ℕ) → is_scheme_byte c ≡ true → stops Start c ≡ false
 scheme_goes c is = grind (arith, nat_tests)
 

@@ -32,7 +32,7 @@ escape_is_ascii b =
     IsAscii-from_all (percent_encode_byte b)
     (All-weaker IsEscapeByte (λ c. c < 128) escape_ascii (percent_encode_byte b) (All-percent_encode_byte b))
 
--- so are those of bytes, and each is its own UTF-8
+-- so are the escapes of bytes, and each is its own UTF-8
 escapes_ascii : (bytes : List ℕ) → IsAscii (flat_map percent_encode_byte bytes)
 escapes_ascii [] = λ i. lit< tt
 escapes_ascii (b ∷ rest) =

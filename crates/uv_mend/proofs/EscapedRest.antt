@@ -38,7 +38,7 @@ escape_first c = elim (cases_lt c 128) [
   | inr high ↦ let beyond = is_beyond c high in (_, ap (flat_map percent_encode_byte) beyond.some)
 ]
 
--- the mark is none of an escape's code points
+-- the mark isn't one of an escape's code points
 abbrev IsOutside : ℕ → Type 0
 IsOutside mark = (b : ℕ) → IsEscapeByte b → (b == mark) ≡ false
 

@@ -45,7 +45,7 @@ each_byte (c ∷ rest) each =
     let parts = and_parts (is_scheme_code_point c) (list_all is_scheme_code_point rest) each in
     All-cons (Passes is_scheme_byte) c rest (same_scheme_byte c ∙ parts.0) (each_byte rest parts.1)
 
--- those of a scheme
+-- all bytes of a scheme are bytes of one
 pub scheme_bytes : (scheme : List ℕ) → is_scheme scheme ≡ true → All (Passes is_scheme_byte) scheme
 scheme_bytes [] is = absurd (false≢true is)
 scheme_bytes (c ∷ scheme) is =
@@ -159,7 +159,7 @@ ports false false false true wss = refl
 ports false false false false true = refl
 ports false false false false false = refl
 
--- that of the parser's kind
+-- the class of a scheme is the class of the parser's kind
 pub class_is : (scheme : List ℕ) → scheme_class scheme ≡ class_of_kind (scheme_type (lowercase scheme))
 unfolding scheme_class scheme_type model.default_port url.default_port
 class_is scheme =

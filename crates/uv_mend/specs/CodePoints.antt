@@ -10,7 +10,7 @@ abbrev pub after_one : List ℕ → List ℕ
 after_one [] = []
 after_one (c ∷ rest) = rest
 
--- the first code point alone, where there is one
+-- only the first code point, where there is one
 abbrev pub first_alone : List ℕ → List ℕ
 first_alone [] = []
 first_alone (c ∷ rest) = c ∷ []

@@ -1,4 +1,4 @@
--- What is after the host of a mended text: its path, query and fragment are those of the refused text but for escapes,
+-- What is after the host of a mended text: it has the path, query and fragment of the refused text but for escapes,
 -- slashes and `/.`.
 use Rattle.std.specs.Prelude.{◌≡◌, ◌⊎◌, ℕ, Bool, true, false, ◌&&◌, ◌==◌, List, [], ◌∷◌, ◌++◌, Option, Some, None}
 use Rattle.uv_model.specs.declared.profile.Profile.{Profile}
@@ -22,9 +22,9 @@ abbrev pub MayBeEscapingOf : Option (List ℕ) → Option (List ℕ) → Type 0
 MayBeEscapingOf None other = other ≡ None
 MayBeEscapingOf (Some text) other = (after : List ℕ) × (other ≡ Some after) × IsEscapingOf text after
 
--- The parts of a mended text that are after the host are those of the refused text without what the parser takes off:
--- the path with its slashes as they are read, and `/.` may be before it; in each part some code points are written as
--- escapes, and all others stay.
+-- After the host a mended text has the parts of the refused text without what the parser takes off: the path with its
+-- slashes as they are read, and `/.` may be before it; in each part some code points are written as escapes, and all
+-- others stay.
 pub record KeepsTheRest (base : Option Url) (text mended : List ℕ) : Type 0 where
   pub path : IsPathOf (cut_of base (slashed base (stripped text))).path_text (cut_of base mended).path_text
   pub query : MayBeEscapingOf (cut_of base (stripped text)).query (cut_of base mended).query

@@ -1,5 +1,5 @@
-//! The edits of a text: those of what the URL parser passes over, and those by the rule that the text then still
-//! violates.
+//! The edits of a text: first what the URL parser passes over is removed, then the text is edited by the rule that it
+//! still violates.
 ghost use Rattle.std.specs.Prelude.{◌≡◌, ◌≤◌, IfOk, IfSome, chars, length, option_copied, option_map, string_bytes};
 ghost use Rattle.uv_mend.specs.Edits as spec;
 ghost use Rattle.uv_mend.specs.Repairs.{decoded};

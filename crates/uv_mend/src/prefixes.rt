@@ -164,7 +164,7 @@ fn is_scheme_code_point(c: char) -> bool
     c.is_ascii_alphanumeric() || c == '+' || c == '-' || c == '.'
 }
 
-/// The class of the text's scheme, or else of the base's, or else `Other`.
+/// The class of the text's scheme, or without one of the base's, or without a base `Other`.
 pub(crate) fn class_against(text: &str, base: Option<&Record>) -> Class
     ensures { result ≡ class_against (option_copied base.entry) (chars text.now) }
 {

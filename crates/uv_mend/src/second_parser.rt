@@ -22,7 +22,7 @@ pub(crate) fn reading(
     }
 }
 
-/// Whether it reads both texts as URLs with the same text. The errors are those of `reading`.
+/// Whether it reads both texts as URLs with the same text. It fails as `reading` does.
 pub(crate) fn reads_same(
     alloc: Global,
     base: Option<&Record>,

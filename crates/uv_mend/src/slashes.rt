@@ -37,8 +37,8 @@ pub(crate) fn slashed<'t>(
     Ok(CowStr::Owned(out))
 }
 
-// Whether the slashes of what follows a scheme, or of a text without one, are as they are read, whatever its class:
-// those of most texts are.
+// Whether the slashes of what follows a scheme, or of a text without one, are as they are read, whatever its class. For
+// most texts they are.
 fn is_slashed(has_scheme: bool, text: &str) -> bool
     ensures { result ≡ true → IsSlashed has_scheme (chars text.now) }
 {

@@ -90,11 +90,11 @@ fragment_place cut = length (written_prefix cut) + 1
 
 -- ---- brackets in an authority
 
--- within brackets after the code point, where `within` says the same of the place before it
+-- within brackets after the code point, where `within` says whether the place before it is
 abbrev pub is_within : Bool → ℕ → Bool
 is_within within c = if c == left_bracket then true else (if c == right_bracket then false else within)
 
--- within brackets at the text's end, where `within` says the same of its start
+-- within brackets at the text's end, where `within` says whether its start is
 abbrev pub is_within_at_end : Bool → List ℕ → Bool
 is_within_at_end within [] = within
 is_within_at_end within (c ∷ rest) = is_within_at_end (is_within within c) rest

@@ -4,8 +4,8 @@ use Rattle.std.specs.Char.{encode_utf8, is_ascii}
 use Rattle.percent_encoding.specs.Percent.{percent_encode_byte}
 use Rattle.uv_model.specs.Ascii.{apostrophe}
 
--- A code point beyond ASCII as the escapes of its UTF-8 bytes, and with `quote` also `'`. On units the C0 control,
--- path and fragment percent-encode sets change the first kind alone, and the special-query set also the second.
+-- A code point beyond ASCII as the escapes of its UTF-8 bytes, and with `quote` also `'`. On units the C0 control, path
+-- and fragment percent-encode sets change only the first kind, and the special-query set also the second.
 abbrev pub encoded_code_point : Bool → ℕ → List ℕ
 encoded_code_point quote c =
     if is_ascii c then (if quote && (c == apostrophe) then codes "%27" else c ∷ [])

@@ -7,12 +7,12 @@ use Rattle.std.specs.Prelude.{if◌then◌else◌}
 abbrev pub is_tab_or_newline : ℕ → Bool
 is_tab_or_newline c = (c == 0x09) || ((c == 0x0A) || (c == 0x0D))
 
--- C0 controls and spaces alone
+-- only C0 controls and spaces
 abbrev pub are_controls : List ℕ → Bool
 are_controls [] = true
 are_controls (c ∷ rest) = nat_le c 0x20 && are_controls rest
 
--- the least place of a tab or a newline, or of a C0 control or a space that such alone follow
+-- the least place of a tab or a newline, or of a C0 control or a space that only such follow
 abbrev pub removed_after : ℕ → List ℕ → Option ℕ
 removed_after p [] = None
 removed_after p (c ∷ rest) =

@@ -50,7 +50,7 @@ abbrev pub without_localhost : Host → Host
 without_localhost (Domain form) = if bytes_eq form (codes "localhost") then Empty else Domain form
 without_localhost host = host
 
--- a valid opaque-host string: IPv6 in brackets, which alone has a value, or units
+-- a valid opaque-host string: IPv6 in brackets, and only this has a value, or units
 abbrev pub IsOpaqueHostText : List ℕ → Option Host → Type 0
 IsOpaqueHostText text (Some (V6 pieces)) = IsBracketedIpv6 text pieces
 IsOpaqueHostText text (Some _) = ⊥
@@ -124,7 +124,7 @@ abbrev pub IsPathAlone : Profile → List (List ℕ) → List ℕ → Type 0
 IsPathAlone Parser segments text = MayBePathAfter Parser segments text
 IsPathAlone profile segments text = IsPathAfter profile segments text
 
--- a file URL has a host and may have a path, or it has a path alone
+-- a file URL has a host and may have a path, or it has only a path
 abbrev pub IsFileAuthority : Setting → List ℕ → Parts → Type 0
 IsFileAuthority setting host_text parts =
     (parts.port_text ≡ None) × (parts.port ≡ None)
@@ -216,7 +216,7 @@ abbrev pub MayBeUnits : Option (List ℕ) → Type 0
 MayBeUnits None = Unit {0}
 MayBeUnits (Some text) = IsUnits text
 
--- The parts of the parser's profile are those of the text's cut. Under the other profiles they are so anyway.
+-- The parts of the parser's profile are the parts of the text's cut. Under the other profiles they are so anyway.
 abbrev pub FitsCut : Profile → Option Url → List ℕ → Parts → Type 0
 FitsCut Parser base text parts = IsCut base text (texts_of parts)
 FitsCut _ base text parts = Unit {0}

@@ -53,8 +53,8 @@ pub fn texts_with_a_violation_have_no_parts()
     ensures { TextsWithAViolationHaveNoParts }
 {}
 
-/// The texts of IPv4 and IPv6 addresses are those of the standard library's grammar, with the same values (URL
-/// Standard, section 3.4; RFC 4291, section 2.2).
+/// The standard library's grammar has the same texts of IPv4 and IPv6 addresses, with the same values (URL Standard,
+/// section 3.4; RFC 4291, section 2.2).
 pub fn addresses_are_library_texts()
     ensures { AreLibraryTexts }
 {}

@@ -14,7 +14,7 @@ use std::borrow::CowStr;
 use std::marker::Model;
 
 /// A URL's record (URL Standard, section 4.1) without credentials. It is well formed under the parser's profile, and so
-/// can be that of a valid text of any profile.
+/// can belong to a valid text of any profile.
 #[derive(Debug, Drop)]
 pub struct Record {
     scheme: CowStr<'static>,

@@ -181,7 +181,7 @@ impl Rule {
     }
 }
 
-/// Where a text is refused, and by which rule.
+/// The place where a text is refused, and the rule.
 #[derive(Clone, Copy, Debug, PartialEq, Eq)]
 pub struct Refusal {
     /// The place: a number of code points, counted from 0 at the text's start.

@@ -94,12 +94,12 @@ IsTakenOtherHost text value =
     ⊎ (((pieces : List ℕ) × IsBracketedIpv6 text pieces × (value ≡ V6 pieces))
     ⊎ (IsOpaqueHost text × (value ≡ Opaque (encoded false text))))
 
--- for a URL that isn't special the host parser takes these texts alone, each as its host
+-- for a URL that isn't special the host parser takes only these texts, each as its host
 abbrev pub OtherHostsAreTaken : Type 0
 OtherHostsAreTaken =
     (text : List ℕ) (value : Host) → (parse_host false text ≡ Some value) ↔ IsTakenOtherHost text value
 
--- for a special URL the host parser takes the hosts of the parser's profile alone, each with its value
+-- for a special URL the host parser takes only the hosts of the parser's profile, each with its value
 abbrev pub SpecialHostsAreTaken : Type 0
 SpecialHostsAreTaken =
     (text : List ℕ) (value : Host) → (parse_host true text ≡ Some value) ↔ IsHostText Parser text value

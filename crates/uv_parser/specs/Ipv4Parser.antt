@@ -34,6 +34,6 @@ parse_ipv4 text = option_map numbers_value (read_numbers text)
 abbrev pub Ipv4TextsAreParsed : Type 0
 Ipv4TextsAreParsed = (text : List ℕ) (value : ℕ) → IsIpv4 text value → parse_ipv4 text ≡ Some value
 
--- the parser gives a value on texts of one to four numbers alone, and exactly theirs
+-- the parser gives a value only on texts of one to four numbers, and exactly theirs
 abbrev pub Ipv4ParserTakesNumbers : Type 0
 Ipv4ParserTakesNumbers = (text : List ℕ) (value : ℕ) → (parse_ipv4 text ≡ Some value) ↔ IsNumbersText text value

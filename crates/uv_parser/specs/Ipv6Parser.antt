@@ -109,6 +109,6 @@ parse_ipv6 text =
 abbrev pub Ipv6TextsAreParsed : Type 0
 Ipv6TextsAreParsed = (text pieces : List ℕ) → IsIpv6 text pieces → parse_ipv6 text ≡ Some pieces
 
--- the law: the parser gives pieces on the IPv6 texts alone, and exactly theirs
+-- the law: the parser gives pieces only on the IPv6 texts, and exactly theirs
 abbrev pub Ipv6ParserTakesIpv6Texts : Type 0
 Ipv6ParserTakesIpv6Texts = (text pieces : List ℕ) → (parse_ipv6 text ≡ Some pieces) ↔ IsIpv6 text pieces

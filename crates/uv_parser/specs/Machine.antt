@@ -24,7 +24,7 @@ use Rattle.uv_model.specs.Valid.{without_localhost}
 
 -- ---- what the machine is
 
--- the states, in the standard's order; its hostname state serves a state override alone
+-- the states, in the standard's order; its hostname state serves only a state override
 pub data State : Type 0 where
   SchemeStartState : State
   SchemeState : State

@@ -1,5 +1,5 @@
 -- Rows: what the URL parser gives on one text (URL Standard, section 4.4), in tables that a reader can hold against the
--- standard. A row is proved by computation alone.
+-- standard. A row is proved only by computation.
 use Rattle.std.specs.Prelude.{◌≡◌, ℕ, List, [], ◌∷◌, map, codes, Option, Some, None}
 use Prim.Native.String.{String as Literal}
 use Rattle.uv_model.specs.declared.host.Host.{Host}

@@ -20,7 +20,7 @@ abbrev pub set_of : Bool → AsciiSet
 set_of true = SPECIAL_QUERY
 set_of false = BEYOND_ASCII
 
--- the set holds `'` alone among the ASCII bytes, and that with `quote`
+-- the set holds only `'` among the ASCII bytes, and that only with `quote`
 contains-set_of : (quote : Bool) (b : ℕ) → b < 128 → contains (set_of quote) b ≡ (quote && (b == apostrophe))
 contains-set_of true b small = agree_below_at (contains SPECIAL_QUERY) (λ c. c == apostrophe) 128 b refl small
 contains-set_of false b small = agree_below_at (contains BEYOND_ASCII) (λ c. false) 128 b refl small

@@ -325,7 +325,7 @@ prefix_before bytes prefix rest n u v joined is =
 
 -- ---- classes of units
 
--- a class of units has ASCII code points alone
+-- a class of units has only ASCII code points
 pub class_ascii : (class : UnitClass) (c : ℕ) → class_has class c ≡ true → c < 128
 class_ascii Url c here = grind (arith, nat_tests, (and_parts (is_ascii c) _ here).0)
 class_ascii Path c here = grind (arith, nat_tests, (and_parts (is_ascii c) _ here).0)

@@ -51,7 +51,8 @@ stop-length p (x ∷ xs) = passed (p x) (stop-length p xs)
     passed true even = ap (λ n. 1 + n) even
     passed false even = refl
 
--- the lowest bit of the ones of 32 bytes that fail and of the end, after the first so many, is the longest prefix there
+-- the lowest bit among the bits of 32 bytes that fail and of the end, after the first so many, is the longest prefix
+-- there
 pub first-stop : (p : ℕ → Bool) (k : ℕ) (xs : List ℕ) → length xs ≡ 32 → k ≤ 32
     → trailing_zeros w64 (bit_or (mask_l (map (λ x. not (p x)) xs)) (2 ^ 32) / 2 ^ k) ≡ prefix_len p (drop k xs)
 first-stop p k xs long within =

@@ -12,7 +12,7 @@ use Rattle.serde_json.specs.declared.value.Value.{Value}
 use Rattle.uv_vectors.specs.Case.{has_known_keys, is_known, is_malformed, list_of, unknown_key}
 use Rattle.uv_vectors.specs.CaseFault.{CaseFault, case_fault}
 
--- each key is known where the members have known keys alone
+-- each key is known where the members have only known keys
 pub known_keys-members_view : (entries : List (String Global × Value))
     → list_all (λ key. is_known (string_bytes key)) (map (λ e. e.0) entries) ≡ has_known_keys (members_view entries)
 known_keys-members_view [] = refl

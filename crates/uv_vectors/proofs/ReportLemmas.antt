@@ -36,7 +36,7 @@ case_lines-push number (first ∷ rest) answer =
     ∙ sym (append_assoc (case_line number first) (case_lines (number + 1) rest)
     (case_line (number + length (first ∷ rest)) answer))
 
--- the failures with the ones of one value more
+-- the failures, together with another value's
 pub failures_push : (values : List Data) (value : Data) (answer : Bool) (count : ℕ) (lines : List ℕ)
     → HasFailures values count lines → Checks value answer
     → HasFailures (values ++ value ∷ []) (count + fails answer) (lines ++ case_line (1 + length values) answer)

@@ -55,7 +55,7 @@ abbrev pub profile_of : Option Data → Option Profile
 profile_of None = Some Standard
 profile_of (Some value) = option_and_then named_profile (as_str value)
 
--- a place: a number in digits alone, below 2^64
+-- a place: a number in only digits, below 2^64
 abbrev pub place_of : Data → Option ℕ
 place_of value = option_and_then as_u64 (as_number value)
 

@@ -15,7 +15,7 @@ pub data CaseFault : Type 0 where
   Input : CaseFault
   Base : CaseFault
   Profile : CaseFault
-  -- it has neither `text` alone nor `place` and `rule`
+  -- it has neither only `text` nor `place` and `rule`
   Expectation : CaseFault
   -- these keys lack a value that they may have
   Text : CaseFault

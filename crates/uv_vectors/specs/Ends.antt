@@ -6,7 +6,7 @@ use Rattle.uv_vectors.specs.declared.ends.VectorEnd.{VectorEnd}
 use Rattle.uv_vectors.specs.declared.ends.VectorEnd.TheVariants.{AllPass, SomeFail, NotJson, NotArray, TooLarge}
 use Rattle.uv_vectors.specs.declared.ends.VectorEnd.TheVariants.{Malformed}
 
--- the end alone
+-- only the end
 abbrev pub vector_end : CasesEnd → VectorEnd
 vector_end ends.AllPass = AllPass
 vector_end ends.SomeFail = SomeFail
@@ -15,6 +15,6 @@ vector_end ends.NotArray = NotArray
 vector_end ends.TooLarge = TooLarge
 vector_end (ends.Malformed number fault) = Malformed number
 
--- it is the end alone of one of which this holds
+-- it is only the end of one of which this holds
 abbrev pub IsEndOf : VectorEnd → (CasesEnd → Type 0) → Type 0
 IsEndOf end P = (told : CasesEnd) × (vector_end told ≡ end) × P told

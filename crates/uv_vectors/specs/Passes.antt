@@ -14,7 +14,7 @@ abbrev pub IsAsExpected : Profile → Option Url → List ℕ → Expectation �
 IsAsExpected profile base input (denotes text) = DenotesText profile base input text
 IsAsExpected profile base input (refuses refusal) = IsRefused profile base (chars input) refusal
 
--- the input is as expected: alone, or against the URL that the base's text denotes alone
+-- the input is as expected: alone, or against the URL that the base's text denotes by itself
 abbrev pub PassesAgainst : Profile → Option (List ℕ) → List ℕ → Expectation → Type 0
 PassesAgainst profile None input expected = IsAsExpected profile None input expected
 PassesAgainst profile (Some base) input expected =

@@ -15,7 +15,7 @@ pub struct FilePlace {
     pub column: usize,
 }
 
-// Where a byte is: its line, and its column in the line, both from 1. A column counts bytes.
+// The place of a byte: its line, and its column in the line, both from 1. A column counts bytes.
 #[derive(Clone, Copy, PartialEq, Eq)]
 struct BytePlace {
     line: usize,

@@ -175,7 +175,7 @@ IsAuthority-file setting scheme text parts (port_text, port, fits) =
       }
     ]
 
--- the host of class Other, of which an IPv6 address alone has a value
+-- the host of class Other, of which only an IPv6 address has a value
 record IsOtherValue (parts : Parts) : Type 0 where
   value : Host
   valued : authority_host parts ≡ Some value

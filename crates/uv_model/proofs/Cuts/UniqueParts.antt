@@ -138,7 +138,7 @@ form_found setting NoPath parts named (none, nothing, empty) = rw (named, none.h
 
 -- ---- what a form makes of the texts
 
--- the host, the port and the segments are the ones of the texts
+-- the host, the port and the segments belong to the texts
 record AreDenoted (setting : Setting) (class : Class) (form : Form) (host_text : Option (List ℕ)) (parts : Parts)
     : Type 0
   where

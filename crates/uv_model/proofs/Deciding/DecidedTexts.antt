@@ -110,7 +110,7 @@ abbrev may_be_path : (profile : Profile) (texts : List (List ℕ)) (text : List 
 may_be_path profile texts text =
     either (both (same_text text []) (same_texts texts [])) (path_after profile texts text)
 
--- a path alone
+-- only a path
 abbrev path_alone : (profile : Profile) (texts : List (List ℕ)) (text : List ℕ)
     → Option (IsPathAlone profile texts text)
 path_alone Parser texts text = may_be_path Parser texts text

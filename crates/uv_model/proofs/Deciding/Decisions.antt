@@ -1,5 +1,5 @@
 -- Decisions: a proof where computing finds one, otherwise nothing. So what holds of a text that is written out is
--- proved by `proof_of` a decision and `refl`. If a decision finds nothing, nothing is said.
+-- proved by `proof_of` a decision and `refl`. If a decision finds nothing, it leaves the question open.
 use Rattle.std.proofs.Common.{◌≡◌, ◌≢◌, ℕ, ◌<◌, ◌≤◌, ◌⊎◌, Bool, true, false, ◌==◌, List, [], ◌∷◌, Option, Some, None}
 use Rattle.std.proofs.Common.{refl, sym, ap, ◌∙◌, inl, inr, eq-eqb, eqb-true, leb-true, ltb-true}
 use Rattle.std.specs.Prelude.{IsSome, drop, leb, ltb, option_map}

@@ -219,7 +219,7 @@ numbers_small (a ∷ b ∷ c ∷ d ∷ []) (first, (second, (third, (fourth, non
     omega (arith, first, second, third, fourth)
 numbers_small (a ∷ b ∷ c ∷ d ∷ e ∷ rest) fit few = absurd (omega (arith, few))
 
--- and so has that of their text
+-- and so has the value of their text
 pub numbers_text_small : (text : List ℕ) (value : ℕ) → IsNumbersText text value → value < 2 ^ 32
 numbers_text_small text value (numbers, are, valued) = rw valued (numbers_small numbers are.fit are.few)
 

@@ -57,7 +57,7 @@ pub no_percent-encoded : (text : List ℕ) → All (λ c. c ≢ percent_sign) te
     All (λ b. b ≢ percent_sign) (encode_utf8_all text)
 no_percent-encoded text none = All-encoded (λ c. c ≢ percent_sign) (λ b high e. absurd (omega arith)) text none
 
--- a text whose UTF-8 is UTF-8 is read back from it: it has scalar values alone
+-- a text whose UTF-8 is UTF-8 is read back from it: it has only scalar values
 pub chars-encoded : (text : List ℕ) → is_utf8 (encode_utf8_all text) ≡ true → chars (encode_utf8_all text) ≡ text
 chars-encoded text utf8 =
     let (scalar, (scalars, spelled)) = IsUtf8-from_is_utf8 (encode_utf8_all text) utf8 in
@@ -74,7 +74,7 @@ decoded-plain text none utf8 =
 pub not_utf8 : (bytes : List ℕ) → is_utf8 bytes ≡ false → process_utf8 EMPTY Allow bytes ≡ None
 not_utf8 bytes h = rw h
 
--- the parser's ToASCII takes UTF-8 alone
+-- the parser's ToASCII takes only UTF-8
 pub utf8-form : (text form : List ℕ) → parser_form text ≡ Some form → is_utf8 (encode_utf8_all text) ≡ true
 utf8-form text form e =
     let bytes = encode_utf8_all text in

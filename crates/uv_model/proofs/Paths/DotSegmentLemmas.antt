@@ -39,7 +39,7 @@ digit_beyond bits =
     (agree_below_at (λ d. is_dot_letter (to_ascii_lowercase (digit_glyph true (8 + d)))) (λ d. false) 4
     (n - 8) refl small)
 
--- a code point beyond ASCII is none of the dot segments'
+-- a code point beyond ASCII isn't in a dot segment
 letter_beyond : (c : ℕ) → is_ascii c ≡ false → is_dot_letter (to_ascii_lowercase c) ≡ false
 letter_beyond c beyond = grind (arith, nat_tests)
 

@@ -29,7 +29,7 @@ onto_first-append : (c : ℕ) (parts others : List (List ℕ)) (first : List ℕ
     → onto_first c (parts ++ others) ≡ onto_first c parts ++ others
 onto_first-append c parts others first rest is = rw is refl
 
--- those of two texts with a `/` between them
+-- the pieces of two texts with a `/` between them
 pub pieces-append : (front rest : List ℕ) → pieces (front ++ (slash ∷ rest)) ≡ pieces front ++ pieces rest
 pieces-append [] rest = refl
 pieces-append (c ∷ front) rest = elim (cases_Bool (c == slash)) [
@@ -195,7 +195,7 @@ unslashed_segments [] some none = absurd cc
 unslashed_segments (c ∷ rest) some none =
     rw (ne_eqb c slash (λ same. none rest (ap (λ x. x ∷ rest) same))) refl
 
--- a `/` and a text after it are pushed, or the `/` alone
+-- a `/` and a text after it are pushed, or only the `/`
 pub pushed_path : (done : Bool) (old slashed text new : List ℕ) → IsPathText old → IsAscii text
     → slashed ≡ old ++ (slash ∷ []) → new ≡ (if done then slashed ++ text else slashed) → IsPathText new
 pushed_path true old slashed text new is ascii mark pushed =

@@ -183,7 +183,7 @@ unit_before_encoded c rest is =
       | inr other ↦ rw other (rw other at is)
     ]
 
--- a code point beyond ASCII that isn't a fault isn't one alone
+-- a code point beyond ASCII that isn't a fault isn't one by itself
 alone_beyond : (c : ℕ) (rest : List ℕ) → is_ascii c ≡ false → is_unit_at c rest ≡ true → is_faultless (c ∷ []) ≡ true
 unfolding is_unit_at
 alone_beyond c rest beyond is =
@@ -192,7 +192,7 @@ alone_beyond c rest beyond is =
       | inr other ↦ rw other (and_from _ _ (rw other at is) refl)
     ]
 
--- a code point that isn't a fault alone has an encoding without a fault
+-- a code point that isn't a fault by itself has an encoding without a fault
 faultless_alone : (c : ℕ) → is_faultless (c ∷ []) ≡ true → is_faultless (encoded_code_point false c) ≡ true
 unfolding encoded
 faultless_alone c is =

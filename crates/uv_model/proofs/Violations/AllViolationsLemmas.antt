@@ -1,4 +1,4 @@
--- Lists of all the violations of a text, put together from those of its parts.
+-- Lists of all the violations of a text, put together from the violations of its parts.
 use Rattle.std.proofs.Common.{◌≡◌, ℕ, ◌+◌, ◌-◌, ◌<◌, ◌⊎◌, ◌↔◌, List, [], ◌∷◌, ◌++◌, Some, None, drop, inl, inr, arith}
 use Rattle.std.proofs.Common.{refl, subst}
 use Rattle.std.specs.List.{Contains}
@@ -107,7 +107,7 @@ ordered_append (x ∷ xs) ys first second across = (
   ordered_append xs ys first.1 second (λ a b one two. across a b (contains_later x a xs one) two),
 )
 
--- those of both kinds, where the one comes before the other
+-- the violations of both kinds, where the one comes before the other
 pub lists_both : (F G : ℕ → Rule → Type 0) (first second : List Refusal) → Precedes F G → ListsViolations F first
     → ListsViolations G second → ListsViolations (Either F G) (first ++ second)
 lists_both F G first second before one two = record {

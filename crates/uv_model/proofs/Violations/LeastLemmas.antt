@@ -1,4 +1,4 @@
--- The least of the violations of two kinds, where those of the one kind come before those of the other.
+-- The least of the violations of two kinds, where each of the one kind comes before each of the other.
 use Rattle.std.proofs.Common.{◌≡◌, ℕ, ◌<◌, ◌≤◌, ◌⊎◌, Option, Some, None, inl, inr, arith, refl, subst}
 use Rattle.std.proofs.lemmas.Bool.{cases_order}
 use Rattle.uv_model.specs.declared.rule.Rule.{Rule}
@@ -96,7 +96,7 @@ least_after start F (Some refusal) is = record {
 
 -- ---- where violations begin and end
 
--- those of either kind begin where both begin
+-- the violations of either kind begin where both begin
 pub begins_either : (F G : ℕ → Rule → Type 0) (start number : ℕ) → Begins F start number → Begins G start number
     → Begins (Either F G) start number
 begins_either F G start number first second = record { from = from }

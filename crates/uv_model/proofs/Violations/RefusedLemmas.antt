@@ -36,11 +36,11 @@ FromFragment cut = MayBeUnitViolation (fragment_place cut) cut.fragment
 abbrev pub OfQuery : Cut → ℕ → Rule → Type 0
 OfQuery cut = MayBeUnitViolation (query_place cut) cut.query
 
--- those of the query and the fragment
+-- the violations of the query and the fragment
 abbrev pub FromQuery : Cut → ℕ → Rule → Type 0
 FromQuery cut = Either (OfQuery cut) (FromFragment cut)
 
--- those of what the path, the query and the fragment hold
+-- the violations of what the path, the query and the fragment hold
 abbrev pub FromPath : Setting → Cut → ℕ → Rule → Type 0
 FromPath setting cut = Either (OfPath setting cut) (FromQuery cut)
 
@@ -48,15 +48,15 @@ FromPath setting cut = Either (OfPath setting cut) (FromQuery cut)
 abbrev pub OfPathStart : Setting → Cut → ℕ → Rule → Type 0
 OfPathStart setting cut = After (path_place cut) (PathStartViolation setting cut)
 
--- those of the path's start and of what follows
+-- the violations of the path's start and of what follows
 abbrev pub FromPathStart : Setting → Cut → ℕ → Rule → Type 0
 FromPathStart setting cut = Either (OfPathStart setting cut) (FromPath setting cut)
 
--- those of the port and of what follows it
+-- the violations of the port and of what follows it
 abbrev pub FromPort : Setting → Cut → ℕ → Rule → Type 0
 FromPort setting cut = Either (PortPartViolation cut) (FromPathStart setting cut)
 
--- those of the host and of what follows it
+-- the violations of the host and of what follows it
 abbrev pub FromHost : Setting → Cut → ℕ → Rule → Type 0
 FromHost setting cut = Either (HostPartViolation setting cut) (FromPort setting cut)
 
@@ -184,7 +184,7 @@ start_first setting text cut = record { order = order }
     order place later rule other start (inr h) =
         (start_before_held setting text cut).order place later rule other start h
 
--- without such a violation the violations are those of the parts
+-- without such a violation the parts have all the violations
 pub from_parts : (setting : Setting) (text : List ℕ) (cut : Cut) → IsStarted setting text cut
     → (place : ℕ) (rule : Rule)
     → FromHost setting cut place rule → ViolationOf setting text cut place rule
@@ -193,7 +193,7 @@ from_parts setting text cut started place rule (inr (inl port)) = inr (inl (star
 from_parts setting text cut started place rule (inr (inr (inl start))) = inr (inl (started, inr (inr start)))
 from_parts setting text cut started place rule (inr (inr (inr held))) = inr (inr held)
 
--- and those of the parts are all there are
+-- and the violations of the parts are all there are
 pub to_parts : (setting : Setting) (text : List ℕ) (cut : Cut) → IsStarted setting text cut → (place : ℕ) (rule : Rule)
     → ViolationOf setting text cut place rule → FromHost setting cut place rule
 to_parts setting text cut started place rule (inl start) = absurd (started place rule start)
@@ -232,7 +232,7 @@ refused_at_start profile base text cut refusal is found =
 
 -- ---- each part refuses, or passes the text on to what follows it
 
--- a fault of the query comes before those of the fragment
+-- a fault of the query comes before the fragment's
 pub query_refuses : (cut : Cut) (refusal : Refusal) → IsLeast (OfQuery cut) (Some refusal)
     → IsLeast (FromQuery cut) (Some refusal)
 query_refuses cut refusal = least_first (OfQuery cut) (FromFragment cut) refusal (query_first cut)
@@ -242,7 +242,7 @@ pub query_passes : (cut : Cut) (least : Option Refusal) → IsLeast (OfQuery cut
     → IsLeast (FromQuery cut) least
 query_passes cut least = least_second (OfQuery cut) (FromFragment cut) least
 
--- a fault of the path comes before those of the query and the fragment
+-- a fault of the path comes before the faults of the query and the fragment
 pub path_refuses : (setting : Setting) (cut : Cut) (refusal : Refusal) → IsLeast (OfPath setting cut) (Some refusal)
     → IsLeast (FromPath setting cut) (Some refusal)
 path_refuses setting cut refusal = least_first (OfPath setting cut) (FromQuery cut) refusal (path_first setting cut)
@@ -253,7 +253,7 @@ pub path_passes : (setting : Setting) (cut : Cut) (least : Option Refusal) → I
     → IsLeast (FromPath setting cut) least
 path_passes setting cut least = least_second (OfPath setting cut) (FromQuery cut) least
 
--- a fault of the path's start comes before those of units
+-- a fault of the path's start comes before the faults of units
 pub path_start_refuses : (setting : Setting) (cut : Cut) (refusal : Refusal)
     → IsLeast (OfPathStart setting cut) (Some refusal)
     → IsLeast (FromPathStart setting cut) (Some refusal)
@@ -266,7 +266,7 @@ pub path_start_passes : (setting : Setting) (cut : Cut) (least : Option Refusal)
     → IsLeast (FromPath setting cut) least → IsLeast (FromPathStart setting cut) least
 path_start_passes setting cut least = least_second (OfPathStart setting cut) (FromPath setting cut) least
 
--- a fault of the port comes before those of the path and of what follows it
+-- a fault of the port comes before the faults of the path and of what follows it
 pub port_refuses : (setting : Setting) (cut : Cut) (refusal : Refusal) → IsLeast (PortPartViolation cut) (Some refusal)
     → IsLeast (FromPort setting cut) (Some refusal)
 port_refuses setting cut refusal =
@@ -277,7 +277,7 @@ pub port_passes : (setting : Setting) (cut : Cut) (least : Option Refusal) → I
     → IsLeast (FromPathStart setting cut) least → IsLeast (FromPort setting cut) least
 port_passes setting cut least = least_second (PortPartViolation cut) (FromPathStart setting cut) least
 
--- a fault of the host comes before those of what follows it
+-- a fault of the host comes before the faults of what follows it
 pub host_refuses : (setting : Setting) (cut : Cut) (refusal : Refusal)
     → IsLeast (HostPartViolation setting cut) (Some refusal)
     → IsLeast (FromHost setting cut) (Some refusal)

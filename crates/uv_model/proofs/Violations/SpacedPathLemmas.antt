@@ -1,5 +1,5 @@
--- The violations of a path by what it holds: those of units, and in an opaque path of the parser's profile all of these
--- but the spaces that it takes.
+-- The violations of a path by what it holds, which are violations of units. In an opaque path of the parser's profile
+-- the spaces that it takes aren't among them.
 use Rattle.std.proofs.Common.{◌≡◌, ℕ, zero, suc, Bool, true, false, ◌||◌, ◌==◌, List, [], ◌∷◌, drop, refl, sym, ap}
 use Rattle.std.proofs.Common.{◌∙◌, inl, inr, eqb-true}
 use Rattle.std.proofs.lemmas.Bool.{false≢true, and_parts, and_from, cases_Bool, false_from_ne_true, true_from_ne_false}
@@ -52,7 +52,7 @@ spaces_end c (next ∷ rest) is only =
     let parts = and_parts (next == space) (only_spaces rest) only in
     spaces_end next rest parts.0 parts.1
 
--- a space that spaces alone follow is one of the text's end
+-- a space that only spaces follow is one of the text's end
 last_spaces : (text : List ℕ) (place : ℕ) (remaining : List ℕ) → drop place text ≡ space ∷ remaining
     → only_spaces remaining ≡ true → ends_with_space text ≡ true
 last_spaces [] zero remaining here only = absurd cc

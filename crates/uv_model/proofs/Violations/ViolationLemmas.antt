@@ -125,7 +125,7 @@ empty_first_starts Standard path_text empty = empty
 empty_first_starts Wide path_text empty = absurd empty
 empty_first_starts Parser path_text empty = absurd empty
 
--- a fault of a path's start is no further than that place, by rule 11 or 12
+-- a fault of a path's start is at most at that place, by rule 11 or 12
 path_start_bounds : (setting : Setting) (cut : Cut) (place : ℕ) (rule : Rule)
     → PathStartViolation setting cut place rule
     → (place ≤ second_slash cut.path_text) × (11 ≤ rule_number rule) × (rule_number rule ≤ 12)
@@ -334,12 +334,12 @@ path_held_after_slash setting cut = record {
       (omega (arith, h.moved), bounds.1));
 }
 
--- those of a query or a fragment, which may be absent
+-- the violations of a query or a fragment, which may be absent
 pub may_be_begins : (start : ℕ) (text : Option (List ℕ)) → Begins (MayBeUnitViolation start text) start 13
 may_be_begins start None = record { from = λ place rule h. absurd h }
 may_be_begins start (Some text) = held_begins start text
 
--- those of a query end before the fragment
+-- the violations of a query end before the fragment
 pub query_ends : (cut : Cut) → Ends (MayBeUnitViolation (query_place cut) cut.query) (fragment_place cut) 0
 query_ends cut = go cut.scheme cut.host_text cut.port_text cut.path_text cut.query cut.fragment
   where

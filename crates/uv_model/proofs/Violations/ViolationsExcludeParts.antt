@@ -409,7 +409,7 @@ base_or_scheme : (base : Option Url) (parts : Parts) → FitsBase base parts →
 base_or_scheme None parts is none absent = false≢true (subst (λ (o : Option (List ℕ)). IsSome o) absent is)
 base_or_scheme (Some url) parts is none absent = cc
 
--- a text that is a fragment alone begins with `#`
+-- a text that is only a fragment begins with `#`
 fragment_alone : (text : List ℕ) (parts : Parts) → text ≡ written parts → parts.scheme ≡ None → HasNoAuthority parts
     → parts.path_text ≡ [] → parts.query ≡ None → (fragment : Option (List ℕ)) → parts.fragment ≡ fragment
     → IsSome fragment
@@ -430,7 +430,7 @@ no_path setting PathAbsolute parts is same = absurd cc
 no_path setting PathRelative parts is same = absurd cc
 no_path setting NoPath parts is same = (is.0, is.1)
 
--- a base with an opaque path lets a fragment alone through
+-- a base with an opaque path lets only a fragment through
 opaque_or_fragment : (profile : Profile) (base : Option Url) (text : List ℕ) (parts : Parts)
     → Valid profile base text parts → FitsBase base parts → parts.scheme ≡ None → HasOpaquePath base
     → starts_with_number_sign text ≡ true

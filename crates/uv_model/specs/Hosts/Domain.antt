@@ -27,7 +27,7 @@ use Rattle.uv_model.specs.Scheme.{lowercase}
 abbrev pub without_root : List ℕ → List ℕ
 without_root text = if is_full_stop (slice_index text (length text - 1)) then take (length text - 1) text else text
 
--- digits alone, and at least one
+-- only digits, and at least one
 abbrev pub is_digits : List ℕ → Bool
 is_digits label = nat_lt 0 (length label) && list_all is_ascii_digit label
 

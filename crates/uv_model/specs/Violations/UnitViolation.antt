@@ -27,7 +27,7 @@ UnitViolation text place CodePoint = HasForeignCodePoint text place
 UnitViolation text place Percent = HasBarePercent text place
 UnitViolation text place _ = ⊥
 
--- the text has spaces alone
+-- the text has only spaces
 abbrev pub only_spaces : List ℕ → Bool
 only_spaces [] = true
 only_spaces (c ∷ rest) = (c == space) && only_spaces rest

@@ -116,7 +116,7 @@ pub record HasForeignDigit (text : List ℕ) (place : ℕ) : Type 0 where
   pub here : drop place text ≡ code_point ∷ rest
   pub foreign : is_ascii_digit code_point ≡ false
 
--- digits alone, which denote more than 65535
+-- only digits, which denote more than 65535
 pub record IsTooLarge (text : List ℕ) : Type 0 where
   pub digits : list_all is_ascii_digit text ≡ true
   pub large : 65535 < digits_value 10 text

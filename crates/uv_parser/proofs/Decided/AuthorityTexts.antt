@@ -1,5 +1,5 @@
 -- A text with an authority, with a scheme or without one: it is valid under the parser's profile, or its run stops. How
--- a run comes to what follows `//` is a parameter, since there alone the two differ.
+-- a run comes to what follows `//` is a parameter, since the two differ only there.
 use Rattle.std.proofs.Common.{◌≡◌, ◌≢◌, ℕ, true, false, ◌||◌, ◌⊎◌, List, [], ◌∷◌, ◌++◌, Option, Some, None, refl, sym}
 use Rattle.std.proofs.Common.{ap, subst, ◌∙◌, inl, inr, eqb-true, append-nil}
 use Rattle.std.specs.List.{list_all}

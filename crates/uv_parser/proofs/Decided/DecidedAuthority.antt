@@ -35,7 +35,7 @@ pub record IsUnended (text : List ℕ) : Type 0 where
   pub no_question_mark : is_without question_mark text ≡ true
   pub no_number_sign : is_without number_sign text ≡ true
 
--- its first code point is no such mark, and the rest holds none
+-- its first code point isn't such a mark, and the rest holds none
 pub unended_after : (c : ℕ) (cs : List ℕ) → IsUnended (c ∷ cs)
     → ((c == slash) ≡ false) × ((c == question_mark) ≡ false) × ((c == number_sign) ≡ false) × IsUnended cs
 unended_after c cs is =

@@ -81,7 +81,7 @@ module _ (url : Url) (text : List ℕ) (host_text port_text : Option (List ℕ))
 
 -- ---- a base with an opaque path
 
--- against a base with an opaque path, `#` and a fragment alone are read
+-- against a base with an opaque path, only `#` and a fragment are read
 fragment_alone : (url : Url) (text : List ℕ) (port_text : Option (List ℕ)) (fragment : List ℕ)
     → IsCut (Some url) text (cut_with None None port_text [] None (Some fragment)) → first_removed text ≡ None
     → is_opaque url.path ≡ true → SilentOrStops (Some url) text

@@ -1,5 +1,5 @@
--- The paths of the parser's profile and of the standard one: where they differ, and that none of the latter has a
--- space.
+-- The paths of the parser's profile and of the standard one: where they differ, and that no path of the standard
+-- profile has a space.
 use Rattle.std.proofs.Common.{◌≡◌, ℕ, true, ◌⊎◌, List, [], ◌∷◌, Option, Some, None, refl, inl}
 use Rattle.std.proofs.Common.{inr}
 use Rattle.std.proofs.lemmas.Bool.{cases_Bool, false≢true}

@@ -43,7 +43,7 @@ pub fits_form : (base : Option Url) (text : List ℕ) (parts : Parts) (form : Fo
 fits_form base text parts form is e =
     subst (λ (f : Form). FitsForm (setting_of Parser base parts.scheme) f parts) e is.form
 
--- the texts of parts are those of the text's one cut
+-- the texts of parts belong to the text's one cut
 pub same_cut : (base : Option Url) (text : List ℕ) (cut : Cut) (parts : Parts) → IsCut base text cut
     → Valid Parser base text parts → texts_of parts ≡ cut
 same_cut base text cut parts is silent =

@@ -48,7 +48,7 @@ use Rattle.uv_parser.proofs.HostParsing.SpecialHosts.{host_of_file, parsed_host}
 
 -- ---- what the cut says of a host text
 
--- a host text without `/`, `?`, `#`, `@` and, of a special URL, `\` has letters of an authority alone
+-- a host text without `/`, `?`, `#`, `@` and, of a special URL, `\` has only letters of an authority
 pub letters_from : (special : Bool) (cs : List ℕ) → is_without slash cs ≡ true → is_without question_mark cs ≡ true
     → is_without number_sign cs ≡ true → is_without at_sign cs ≡ true
     → (special ≡ true → is_without backslash cs ≡ true) → list_all (is_authority_letter special) cs ≡ true
@@ -149,7 +149,7 @@ closed_before : (text : List ℕ) (port : Option (List ℕ)) → EndsAtPort text
 closed_before text None ends some = inl refl
 closed_before text (Some port) ends some = inr (some, ends.ends refl)
 
--- its host has letters of an authority alone
+-- its host has only letters of an authority
 pub special_letters : (base : Option Url) (parts : Parts) (scheme host_text : List ℕ)
     → IsNamed base parts SpecialNotFile scheme host_text → list_all (is_authority_letter true) host_text ≡ true
 special_letters base parts scheme host_text is =

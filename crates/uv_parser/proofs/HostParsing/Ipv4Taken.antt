@@ -77,6 +77,6 @@ value_taken text value e =
     let (numbers, read, same) = mapped numbers_value (read_numbers text) value e in
     (numbers, numbers_taken text numbers read, sym same)
 
--- the parser gives a value on one to four numbers alone, and exactly theirs
+-- the parser gives a value only on one to four numbers, and exactly theirs
 pub ipv4_takes_numbers : Ipv4ParserTakesNumbers
 ipv4_takes_numbers text value = (value_taken text value, numbers_parsed text value)

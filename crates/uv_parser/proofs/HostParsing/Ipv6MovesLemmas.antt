@@ -1,4 +1,4 @@
--- Where the IPv6 parser moves the pieces after `::`, for each of the 36 pairs of lengths.
+-- The places to which the IPv6 parser moves the pieces after `::`, for each of the 36 pairs of lengths.
 use Rattle.std.proofs.Common.{◌≡◌, ℕ, ◌+◌, ◌-◌, ◌<◌, List, [], ◌∷◌, ◌++◌, length, refl, arith}
 use Rattle.std.specs.Prelude.{replicate}
 use Rattle.uv_parser.specs.Ipv6Parser.{move}

@@ -267,7 +267,7 @@ parser_taken text pieces e =
       | inr other ↦ begins_unmarked (length text) zeros text pieces r other (rw other at given) finished
     ]
 
--- the parser gives pieces on the IPv6 texts alone, and exactly theirs
+-- the parser gives pieces only on the IPv6 texts, and exactly theirs
 pub ipv6_texts_alone : Ipv6ParserTakesIpv6Texts
 ipv6_texts_alone text pieces = (alone, ipv6_parsed text pieces)
   where

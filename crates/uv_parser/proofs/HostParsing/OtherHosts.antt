@@ -1,4 +1,4 @@
--- The parser is silent on the valid hosts of URLs of class Other alone.
+-- Of the hosts of URLs of class Other the parser is silent only on the valid ones.
 use Rattle.std.proofs.Common.{not}
 use Rattle.uv_model.specs.declared.profile.Profile.TheVariants.{Parser}
 use Rattle.uv_model.specs.declared.scheme.Class.TheVariants.{SpecialNotFile}

@@ -115,6 +115,6 @@ taken_host text value (inr (inl (pieces, bracketed, valued))) =
     rw valued (ipv6_hosts_are_parsed false text pieces bracketed)
 taken_host text value (inr (inr (opaque, valued))) = rw valued (opaque_hosts_are_parsed text opaque)
 
--- the host parser takes these texts alone
+-- the host parser takes only these texts
 pub other_hosts_are_taken : OtherHostsAreTaken
 other_hosts_are_taken text value = (host_taken text value, taken_host text value)

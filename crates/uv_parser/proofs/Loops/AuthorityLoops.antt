@@ -37,7 +37,7 @@ pub record Letter (special : Bool) (c : ℕ) : Type 0 where
   pub no_at_sign : (c == at_sign) ≡ false
   pub no_backslash : ((c == backslash) && special) ≡ false
 
--- a code point of an authority is none of these
+-- a code point of an authority isn't one of these
 pub letter : (special : Bool) (c : ℕ) → is_authority_letter special c ≡ true → Letter special c
 letter special c is =
     let after_slash = and_parts (not (c == slash)) _ is in

@@ -68,7 +68,7 @@ text_is_kept (c ∷ rest) kept =
 
 -- ---- what passes the test
 
--- what doesn't end with a C0 control or a space isn't such alone
+-- what doesn't end with a C0 control or a space has something else
 not_controls : (c : ℕ) (rest : List ℕ) → ends_with_control (c ∷ rest) ≡ false
     → (nat_le c 0x20 && are_controls rest) ≡ false
 not_controls c [] end = and-true (nat_le c 0x20) ∙ end

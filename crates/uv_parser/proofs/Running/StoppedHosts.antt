@@ -1,6 +1,5 @@
--- Where the parser machine stops within a host text of class SpecialNotFile or File: what the text says where it
--- doesn't stop,
--- and what of the whole text says that it doesn't.
+-- The stops of the parser machine within a host text of class SpecialNotFile or File: what the text says where it
+-- doesn't stop, and what of the whole text says that it doesn't.
 use Rattle.std.proofs.Common.{◌≡◌, ℕ, Bool, true, false, not, ◌&&◌, ◌||◌, ◌==◌, List, [], ◌∷◌, ◌++◌, length, Option}
 use Rattle.std.proofs.Common.{Some, None, refl, ne_eqb, arith}
 use Rattle.std.specs.Prelude.{is_some}

@@ -1,5 +1,5 @@
--- Code points above U+0020, which the parser never removes before its first step: those of a scheme, of units, and of a
--- query and a fragment after their marks.
+-- Code points above U+0020, which the parser never removes before its first step: in a scheme, in units, and in a query
+-- and a fragment after their marks.
 use Rattle.std.proofs.Common.{◌≡◌, ℕ, Bool, true, ◌==◌, List, [], ◌∷◌, ◌++◌, Option, Some, None, inl, inr}
 use Rattle.std.proofs.Common.{refl, ◌∙◌, arith}
 use Rattle.std.specs.Prelude.{nat_lt}

@@ -99,7 +99,7 @@ with_tail_denoted base parts form class v of_form is name host port path query =
     } in
     subst (λ (f : Form). with_tail parts.query parts.fragment v ≡ denote_as base f parts) (sym of_form) as_form
 
--- and so those of a text with a scheme
+-- and so for a text with a scheme
 pub denoted_from_variables : (base : Option Url) (parts : Parts) (form : Form) (scheme : List ℕ) (v : Variables)
     → has_scheme form ≡ true → parts.form ≡ form → parts.scheme ≡ Some scheme
     → HoldsDenoted base parts form scheme v → with_tail parts.query parts.fragment v ≡ denote base parts

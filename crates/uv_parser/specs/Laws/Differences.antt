@@ -1,5 +1,5 @@
--- Where the valid texts of the parser's profile, on which the URL parser (URL Standard, section 4.4) is silent, aren't
--- valid URL strings (sections 3.4 and 4.3): the differences, each by its name, and the law that there are no others.
+-- The differences between the valid texts of the parser's profile, on which the URL parser (URL Standard, section 4.4)
+-- is silent, and valid URL strings (sections 3.4 and 4.3), each by its name, and the law that there are no others.
 use Rattle.std.specs.Prelude.{◌≡◌, ◌≢◌, ℕ, ◌<◌, ◌⊎◌, true, false, List, [], length, Option, Some, IsSome}
 use Rattle.uv_model.specs.declared.profile.Profile.TheVariants.{Standard, Parser}
 use Rattle.uv_model.specs.declared.host.Host.{Host}
@@ -73,7 +73,7 @@ abbrev pub HasEmptyAuthority : Option Url → Parts → Type 0
 HasEmptyAuthority base parts =
     (class_in base parts.scheme ≡ File) × (parts.host_text ≡ Some []) × (parts.path_text ≡ [])
 
--- the path has a space, which in an opaque path alone the parser doesn't report (sections 4.3 and 4.4)
+-- the path has a space, which the parser leaves unreported only in an opaque path (sections 4.3 and 4.4)
 abbrev pub HasSpaceInPath : Parts → Type 0
 HasSpaceInPath parts = is_without space parts.path_text ≡ false
 

@@ -1,5 +1,5 @@
--- The hosts of URLs of class Other: the URL parser (URL Standard, sections 3.5 and 4.4) is silent on the valid ones
--- alone.
+-- The hosts of URLs of class Other: the URL parser (URL Standard, sections 3.5 and 4.4) is silent only on the valid
+-- ones.
 use Rattle.std.specs.Prelude.{◌≡◌, ◌↔◌, ◌⊎◌, ℕ, true, false, List, [], Option, Some, None}
 use Rattle.uv_model.specs.declared.host.Host.{Host}
 use Rattle.uv_model.specs.declared.host.Host.TheVariants.{Opaque, Empty}

@@ -1,4 +1,5 @@
--- The law of valid texts (URL Standard, section 4.3): on those of each profile the URL parser (section 4.4) is silent.
+-- The law of valid texts (URL Standard, section 4.3): on the valid texts of each profile the URL parser (section 4.4)
+-- is silent.
 use Rattle.std.specs.Prelude.{ℕ, List, Option}
 use Rattle.uv_model.specs.declared.profile.Profile.{Profile}
 use Rattle.uv_model.specs.declared.profile.Profile.TheVariants.{Parser}

@@ -113,7 +113,7 @@ authority_readings =
     (listed "file" empty_host None ("C:" ∷ "" ∷ []))
     ∷ []
 
--- with a scheme and a path alone
+-- with only a scheme and a path
 abbrev pub path_readings : List Reading
 path_readings =
     denotes "foo:/.//a" (on_path "/.//a" ("." ∷ "" ∷ "a" ∷ []) (of_scheme "foo" (form_alone SchemePath)))

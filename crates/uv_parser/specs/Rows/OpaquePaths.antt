@@ -44,7 +44,7 @@ space_rows =
     ∷ stops "urn://h/a b" 9
     ∷ []
 
--- URL code points, and those that are none
+-- URL code points, and others
 abbrev pub unit_rows : List Row
 unit_rows =
     done "urn:!$&'()*+,-./09:;=@AZ_az~" (opaque "urn" "!$&'()*+,-./09:;=@AZ_az~") "urn:!$&'()*+,-./09:;=@AZ_az~"

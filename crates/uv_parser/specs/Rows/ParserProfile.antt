@@ -117,8 +117,8 @@ refused_numbers =
     ∷ stops "http://0x1/" 10
     ∷ []
 
--- hosts of which no domain is made: an escaped `/`, an escape that isn't UTF-8, no Punycode after `xn--`, and U+00AD
--- alone, of which nothing is left
+-- hosts of which no domain is made: an escaped `/`, an escape that isn't UTF-8, no Punycode after `xn--`, and only
+-- U+00AD, of which nothing is left
 abbrev pub refused_domains : List Row
 refused_domains =
     stops "http://a%2Fb/" 12
@@ -178,7 +178,7 @@ other_references =
     ∷ against other_base (done "///x" (listed "foo" empty_host None ("x" ∷ [])) "foo:///x")
     ∷ []
 
--- an opaque path, which may have a space, takes a fragment alone
+-- an opaque path, which may have a space, takes only a fragment
 abbrev pub opaque_references : List Row
 opaque_references =
     against urn_base (stops "//" 0)

@@ -94,7 +94,7 @@ pub record WideReferenceRows : Type 0 where
   pub valid : Valid Wide (Some root_base) (codes "//h") reference_parts
   pub denoted : serial (denote (Some root_base) reference_parts) ≡ codes "http://h/"
 
--- records: `_` in a domain is well formed under the wide profile alone
+-- records: `_` in a domain is well formed only under the wide profile
 pub record WideRecordRows : Type 0 where
   pub wide : WellFormed Wide (listed "http" (Some (host.Domain (codes "a_b"))) None ("" ∷ []))
   pub standard : ¬ (WellFormed Standard (listed "http" (Some (host.Domain (codes "a_b"))) None ("" ∷ [])))

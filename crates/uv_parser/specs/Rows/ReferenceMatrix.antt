@@ -244,7 +244,7 @@ abbrev pub AllViolate : Url → Rule → List Literal → Type 0
 AllViolate base rule [] = Unit {0}
 AllViolate base rule (text ∷ texts) = Violation Standard (Some base) (codes text) 0 rule × AllViolate base rule texts
 
--- the texts that aren't a fragment alone
+-- the texts that aren't only a fragment
 abbrev pub other_texts : List Literal
 other_texts =
     "/x" ∷ "/D:?q" ∷ "/.." ∷ "/C:/x" ∷ "/b" ∷ "x" ∷ "" ∷ "..//x" ∷ "//g" ∷ ".." ∷ "." ∷ "?x" ∷ "./a:b" ∷ []

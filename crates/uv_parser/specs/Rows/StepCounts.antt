@@ -15,9 +15,8 @@ abbrev pub done_at_the_bound : Literal → Literal → Literal → Option ℕ �
 done_at_the_bound text scheme name port serialized =
     in_steps (least_step_bound (codes text)) (done text (listed scheme (domain name) port ("" ∷ [])) serialized)
 
--- an authority alone against a base of class SpecialNotFile: the longest way to the path, and each code point of the
--- authority
--- is read twice
+-- only an authority, against a base of class SpecialNotFile: the longest way to the path, and each code point of the
+-- authority is read twice
 abbrev pub step_count_rows : List Row
 step_count_rows =
     against root_base (goes_on_before_the_bound "//h")

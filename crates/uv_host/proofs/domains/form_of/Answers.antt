@@ -1,4 +1,4 @@
--- Under the parser's profile the form is that of the parser.
+-- Under the parser's profile the form is the parser's.
 use Rattle.uv_host.proofs.domains.form_of.Goals as goal
 
 pub returns-in-None : goal.returns-in-None

@@ -1,4 +1,4 @@
--- ToASCII gives the same of a text's code points and of its bytes.
+-- ToASCII gives the same on a text's code points and on its bytes.
 use Rattle.std.proofs.Common.{sym, ap, ◌∙◌}
 use Rattle.std.proofs.lemmas.Str.{encodes-chars}
 use Rattle.idna.specs.declared.options.DnsLength.TheVariants.{Ignore}

@@ -1,4 +1,4 @@
--- What is said after the last line, and then the end.
+-- The report after the last line, and then the end.
 use Rattle.std.proofs.Common.{Ok}
 use Rattle.uv_lines.proofs.FramedLemmas.{follows_cut, follows_more}
 use Rattle.uv_lines.proofs.framed.write_last.Goals as goal

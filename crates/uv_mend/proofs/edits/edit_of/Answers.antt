@@ -1,4 +1,4 @@
--- An edit by the rule that a text violates changes its rest by `/.` alone.
+-- An edit by the rule that a text violates changes its rest only by `/.`.
 use Rattle.std.proofs.Common.{ap, chars, inl, option_copied, subst, sym, ◌∙◌}
 use Rattle.std.proofs.lemmas.Result.{IfOk-weaker}
 use Rattle.std.specs.Prelude.{IfSome}

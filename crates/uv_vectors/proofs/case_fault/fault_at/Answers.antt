@@ -1,4 +1,4 @@
--- The value at the place is the one of the slice.
+-- The value at the place is the slice's.
 use Rattle.uv_vectors.specs.Views.{fault_view}
 use Rattle.uv_vectors.proofs.CaseLemmas.{fault-items_view}
 use Rattle.uv_vectors.proofs.case_fault.fault_at.Goals as goal

@@ -1,4 +1,4 @@
--- What is said of the last line, written.
+-- The report on the last line, written.
 use Rattle.std.proofs.Common.{◌+◌, ◌∙◌, take, arith, ap, refl}
 use Rattle.uv_lines.specs.Fault.{failed_within}
 use Rattle.uv_lines.specs.Lines.{lines_of}
