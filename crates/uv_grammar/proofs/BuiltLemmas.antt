@@ -393,7 +393,7 @@ scheme_path_fits profile base text scheme port_text path query fragment host por
         (cut_with (Some scheme) None port_text path query fragment)
         (no_opaque_slash (class_in base (Some scheme)) (Some scheme) port_text path query fragment start) s.quiet.path
 
--- a path alone
+-- only a path
 reference_fits : (profile : Profile) (base : Option Url) (text : List ℕ) (port_text : Option (List ℕ)) (c : ℕ)
     (rest : List ℕ)
     (query fragment : Option (List ℕ)) (host : Option Host) (port : Option ℕ)
@@ -461,7 +461,7 @@ scheme_fits None None (c ∷ rest) middle is = elim (cases_Bool (starts_with_sla
 
 -- ---- the base
 
--- a text that begins with `#` is a fragment alone
+-- a text that begins with `#` is only a fragment
 number_sign_first : (prefix : List ℕ) (fragment : Option (List ℕ)) → is_without number_sign prefix ≡ true
     → starts_with_number_sign (prefix ++ written_after number_sign fragment) ≡ true → (prefix ≡ []) × IsSome fragment
 number_sign_first [] None none start = absurd (false≢true start)

@@ -90,7 +90,7 @@ abbrev AreScalars : Option (List ℕ) → Type 0
 AreScalars None = Unit {0}
 AreScalars (Some part) = all_scalars part ≡ true
 
--- those of each part
+-- the code points of each part are scalars
 record HasScalars (cut : Cut) : Type 0 where
   scheme : AreScalars cut.scheme
   host : AreScalars cut.host_text

@@ -1,4 +1,4 @@
--- A verdict asks of a base its kind alone: against two bases of one kind each text has one verdict.
+-- A verdict depends only on the kind of a base: against two bases of one kind each text has one verdict.
 use Rattle.std.proofs.Common.{◌≡◌, ◌↔◌, ℕ, Bool, true, false, List, [], Option, Some, None, refl, sym}
 use Rattle.std.proofs.Common.{◌∙◌, ap, subst, inl, inr}
 use Rattle.std.specs.Prelude.{IsTrue, if◌then◌else◌}

@@ -217,7 +217,7 @@ host_scan_adds setting cut class host_text before after is same scanned adds =
 
 -- ---- the port
 
--- digits alone violate one rule
+-- a port of only digits violates at most one rule
 port_one_at_most : (text : List ℕ) → list_all is_ascii_digit text ≡ true → HasOneAtMost (PortViolation text)
 port_one_at_most text digits place other PortRange PortRange h k = (h.1 ∙ sym k.1, refl)
 port_one_at_most text digits place other PortDigit second h k = absurd (digits_only text place digits h)
@@ -237,7 +237,7 @@ port_fault_adds cut host_text port_text before after fault host port digits leas
     only = rw (host, port) (after_one_at_most (port_place host_text cut) (PortViolation port_text)
         (port_one_at_most port_text digits))
 
--- the faults of a port that isn't digits alone are all that is added
+-- the faults of a port that has more than digits are all that is added
 pub port_scan_adds : (cut : Cut) (host_text port_text : List ℕ) (before after : List Refusal)
     → cut.host_text ≡ Some host_text → cut.port_text ≡ Some port_text → list_all is_ascii_digit port_text ≡ false
     → AddsViolations (After (port_place host_text cut) (DigitViolation port_text)) before after
@@ -322,7 +322,7 @@ started_adds setting text cut before after started adds =
     from place rule (inl h) = absurd (started place rule h)
     from place rule (inr (again, h)) = h
 
--- the first violations are before those of what the path, the query and the fragment hold
+-- the first violations are before the violations of what the path, the query and the fragment hold
 first_before_held : (setting : Setting) (text : List ℕ) (cut : Cut)
     → Precedes (FirstViolation setting text cut) (ContentViolation setting cut)
 first_before_held setting text cut = record { order = order }

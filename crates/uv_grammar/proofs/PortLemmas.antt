@@ -78,7 +78,7 @@ foreign_least text other = record { stands = foreign_here text other; first = fi
     lowest PortDigit h = le_refl 9
     lowest _ h = absurd h
 
--- digits alone have none
+-- a text of only digits has no such violation
 pub digits_silent : (text : List ℕ) → list_all is_ascii_digit text ≡ true → IsLeast (DigitViolation text) None
 digits_silent text digits place PortDigit h = digits_only text place digits h
 digits_silent text digits place _ h = absurd h

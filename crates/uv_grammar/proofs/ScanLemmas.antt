@@ -222,7 +222,7 @@ adds_fault F before after (Some refusal) only least joined = record {
       (λ place rule h. only refusal.place place refusal.rule rule least.stands h);
 }
 
--- those of both kinds, one after the other
+-- the violations of both kinds, one after the other
 pub adds_both : (F G : ℕ → Rule → Type 0) (before middle after : List Refusal) → Precedes F G
     → AddsViolations F before middle → AddsViolations G middle after → AddsViolations (Either F G) before after
 adds_both F G before middle after first one two = record {

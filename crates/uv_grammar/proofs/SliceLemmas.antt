@@ -117,7 +117,7 @@ splits_at_slash bytes prefix after end utf8 found is_prefix is_after =
       path = λ some. subst (λ (s : List ℕ). starts_with_slash s ≡ true) (sym first) refl;
     })
 
--- a text without `/` is a prefix alone
+-- a text without `/` is only a prefix
 pub splits_at_end : (bytes rest : List ℕ) → IsUtf8 bytes → IsFirstMark slash bytes None
     → rest ≡ drop (length bytes) bytes → SplitsAtSlash (chars bytes) (chars bytes) (chars rest)
 splits_at_end bytes rest utf8 none empty =

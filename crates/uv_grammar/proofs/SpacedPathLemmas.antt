@@ -124,7 +124,7 @@ none_taken followed text none taken =
     let counted : prefix_len is_space (space ∷ taken.rest) ≡ 0 = ap (prefix_len is_space) (sym taken.here) ∙ none in
     absurd (omega arith)
 
--- a text that its spaces end has spaces alone
+-- a text that ends with its first spaces has only spaces
 ends_with_them : (text : List ℕ) → drop (prefix_len is_space text) text ≡ [] → only_spaces text ≡ true
 ends_with_them [] none = refl
 ends_with_them (c ∷ rest) none = elim (cases_Bool (c == space)) [

@@ -41,7 +41,7 @@ pub record PassesByPrefix (test : List ℕ → Bool) (text : List ℕ) : Type 0 
   pub ascii : IsAscii prefix
   pub any : (other : List ℕ) → test (prefix ++ other) ≡ true
 
--- a test that is passed by an ASCII prefix alone
+-- a test that is passed by only an ASCII prefix
 pub prefix_test : (test : List ℕ → Bool) → ((text : List ℕ) → test text ≡ true → PassesByPrefix test text)
     → (bytes : List ℕ) → IsUtf8 bytes → test (chars bytes) ≡ test bytes
 prefix_test test passes bytes utf8 =

@@ -1,4 +1,4 @@
--- Where the parts of a text end in its bytes, each after its delimiter, after the order of URL Standard, section 4.3.
+-- The ends of a text's parts in its bytes, each after its delimiter, in the order of URL Standard, section 4.3.
 use Rattle.std.specs.Prelude.{◌≢◌, ℕ, ◌+◌, ◌-◌, ◌≤◌, ◌==◌, List, length, Option, Some, None, slice_range}
 use Rattle.std.specs.Prelude.{if◌then◌else◌}
 use Rattle.std.specs.Str.{IsCharBoundary, chars, encode_utf8_all}

@@ -18,7 +18,7 @@ abbrev pub fault_list : Option Refusal → List Refusal
 fault_list None = []
 fault_list (Some refusal) = refusal ∷ []
 
--- those of the start, or where there are none, those of the host, the port and the path's start
+-- the faults of the start, or where it has none, of the host, the port and the path's start
 abbrev pub FirstViolation : Setting → List ℕ → Cut → ℕ → Rule → Type 0
 FirstViolation setting text cut place rule =
     StartViolation setting text cut place rule

@@ -1,5 +1,5 @@
--- Texts checked without memory: those of whose host no form of a domain is made, or whose host is its own form,
--- after the URL Standard, sections 3.3 and 4.3.
+-- Texts checked without memory: no form of a domain is made of the host, or the host is its own form, after the URL
+-- Standard, sections 3.3 and 4.3.
 use Rattle.std.specs.Prelude.{◌≡◌, ℕ, ◌⊎◌, true, false, List, [], Option, Some, None}
 use Rattle.uv_model.specs.declared.profile.Profile.{Profile}
 use Rattle.uv_model.specs.declared.profile.Profile.TheVariants.{Parser}

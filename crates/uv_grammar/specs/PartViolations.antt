@@ -6,23 +6,23 @@ use Rattle.uv_model.specs.Violations.Violation.{PathStartViolation}
 use Rattle.uv_model.specs.Cut.{Cut, fragment_place, path_place, query_place, written_cut}
 use Rattle.uv_model.specs.Setting.{Setting}
 
--- those of the path's start
+-- the violations of the path's start
 abbrev pub OfPathStart : Setting → Cut → ℕ → Rule → Type 0
 OfPathStart setting cut = After (path_place cut) (PathStartViolation setting cut)
 
--- those of what the path holds
+-- the violations of what the path holds
 abbrev pub OfPath : Setting → Cut → ℕ → Rule → Type 0
 OfPath setting cut = After (path_place cut) (PathContentViolation setting cut)
 
--- those of the query
+-- the violations of the query
 abbrev pub OfQuery : Cut → ℕ → Rule → Type 0
 OfQuery cut = MayBeUnitViolation (query_place cut) cut.query
 
--- those of the fragment
+-- the violations of the fragment
 abbrev pub OfFragment : Cut → ℕ → Rule → Type 0
 OfFragment cut = MayBeUnitViolation (fragment_place cut) cut.fragment
 
--- those of what is after the authority: the path's start, and what the path, the query and the fragment hold
+-- the violations after the authority: of the path's start, and of what the path, the query and the fragment hold
 abbrev pub AfterAuthority : Setting → Cut → ℕ → Rule → Type 0
 AfterAuthority setting cut place rule = OfPathStart setting cut place rule ⊎ ContentViolation setting cut place rule
 

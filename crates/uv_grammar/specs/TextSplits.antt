@@ -48,7 +48,7 @@ pub record SplitsHost (class : Class) (authority host_text : List ℕ) (port_tex
   pub joined : authority ≡ host_text ++ written_after colon port_text
   pub host : IsHostCut class host_text port_text
 
--- the text is an authority of the class and a path, or a path alone
+-- the text is an authority of the class and a path, or only a path
 pub record SplitsMiddle (class : Class) (text : List ℕ) (host_text port_text : Option (List ℕ)) (path_text : List ℕ)
     : Type 0 where
   pub joined : text ≡ written_authority host_text port_text ++ path_text

@@ -51,7 +51,8 @@ impl BaseKind {
         }
     }
 
-    /// The kind of the base that a text with these parts denotes alone. No record is made, and so no memory is taken.
+    /// The kind of the base that a text with these parts denotes without a base of its own. No record is made, and so
+    /// no memory is taken.
     pub fn of_parts(parts: &Parts<'_>) -> BaseKind
         ensures { IsOfKind (denote None parts.now) result }
     {
@@ -73,7 +74,7 @@ fn written_scheme<'t>(parts: &Parts<'t>) -> &'t str
     }
 }
 
-// Whether parts denote an opaque path alone.
+// Whether parts denote an opaque path without a base.
 fn denotes_opaque_path(parts: &Parts<'_>) -> bool
     ensures { (class : Class) → is_opaque (denoted_path None class parts.now.form parts.now) ≡ result }
 {
@@ -128,7 +129,7 @@ impl BaseScheme {
     }
 }
 
-/// A base, by its record or by its kind alone.
+/// A base, by its record or only by its kind.
 #[derive(Clone, Copy)]
 pub(crate) enum Base<'b> {
     /// What a text denotes.

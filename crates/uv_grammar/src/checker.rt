@@ -28,7 +28,7 @@ pub enum Verdict<'t> {
 }
 
 /// Whether a text is a valid URL string under the profile, alone or against a base (URL Standard, section 4.3), with
-/// its parts or its least refusal. The error is out of memory, which is asked for where a domain's form is made alone.
+/// its parts or its least refusal. The error is out of memory, which is only asked for when a domain's form is made.
 pub fn check<'t>(
     alloc: Global,
     text: &'t str,
@@ -84,8 +84,8 @@ pub fn check_of_kind<'t>(
     check_otherwise(alloc, text, Some(Base::Kind(base)), profile)
 }
 
-// The verdict on a text that isn't known as a plain link. It is inlined, so that the place of the verdict that it asks for
-// is filled with zeros here, and not before a link is known to be plain.
+// The verdict on a text that isn't known as a plain link. It is inlined, so that the place of the verdict that it asks
+// for is filled with zeros here, and not before a link is known to be plain.
 #[inline(always)]
 fn check_otherwise<'t>(
     alloc: Global,

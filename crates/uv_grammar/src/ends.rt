@@ -1,4 +1,4 @@
-//! Where the parts of a text end in its bytes, and the slices between these ends.
+//! The ends of a text's parts in its bytes, and the slices between these ends.
 ghost use Rattle.std.specs.Prelude.{◌≡◌, ◌≢◌, ◌<◌, ◌-◌};
 ghost use Rattle.std.specs.Str.{IsCharBoundary};
 ghost use Rattle.uv_grammar.specs.Ends.{MayBePart, ends_of, extent, part_between, scheme_before, whole_extent};
@@ -6,8 +6,8 @@ ghost use Rattle.uv_grammar.specs.Slices.{chars_of_option};
 
 use crate::cut::Cut;
 
-/// Where the parts of a text end in its bytes, each with its delimiters. An absent part ends where the one before it
-/// does, and a fragment ends with the text.
+/// The ends of a text's parts in its bytes, each with its delimiters. An absent part ends where the one before it does,
+/// and a fragment ends with the text.
 #[derive(Clone, Copy)]
 pub(crate) struct Ends {
     /// After the scheme and its `:`.

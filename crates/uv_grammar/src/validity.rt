@@ -13,7 +13,7 @@ use std::alloc::{AllocError, Global};
 use uv_model::{Profile, Record};
 
 /// Whether a text is a valid URL string under the profile, alone or against a base (URL Standard, section 4.3): what
-/// `check` says, without the parts. The error is out of memory, which is asked for where a domain's form is made alone.
+/// `check` says, without the parts. The error is out of memory, which is only asked for when a domain's form is made.
 pub fn is_valid(
     alloc: Global,
     text: &str,

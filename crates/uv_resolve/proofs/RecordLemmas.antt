@@ -39,7 +39,7 @@ abbrev pub fields : List ℕ → Option Host → Option ℕ → UrlPath → Opti
 fields scheme host port path query fragment =
     record { scheme = scheme; host = host; port = port; path = path; query = query; fragment = fragment }
 
--- six fields that are those of the denoted URL
+-- six fields that belong to the denoted URL
 pub denote-fields : (base : Option Url) (parts : Parts) (class : Class) (scheme : List ℕ) (host : Option Host)
     (port : Option ℕ) (path : UrlPath) (query fragment : Option (List ℕ))
     → class ≡ scheme_class (scheme_in base parts)

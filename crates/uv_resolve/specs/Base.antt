@@ -1,4 +1,4 @@
--- The URL that a base's text denotes alone, where there is a base.
+-- The URL that a base's text denotes by itself, where there is a base.
 use Rattle.std.specs.Prelude.{◌≡◌, List, ℕ, Option, Some, None, Result, Ok, Err}
 use Rattle.std.specs.Borrow.{Bor}
 use Rattle.std.specs.Str.{chars}
@@ -13,13 +13,13 @@ use Rattle.uv_resolve.specs.declared.fault.ResolveFault.{ResolveFault}
 use Rattle.uv_resolve.specs.declared.fault.ResolveFault.TheVariants.{Refused, Memory}
 use Rattle.uv_resolve.specs.Resolve.{IsRefusedWithoutMemory}
 
--- the base: none, or the URL that its text denotes alone
+-- the base: none, or the URL that its text denotes by itself
 abbrev pub IsBase : Profile → Option (Bor (List ℕ)) → Option Url → Type 0
 IsBase profile None base = base ≡ None
 IsBase profile (Some text) base =
     (parts : Parts) × Valid profile None (chars text.now) parts × (base ≡ Some (denote None parts))
 
--- the base's text is refused alone by this refusal
+-- the base's text is refused by this refusal
 abbrev pub IsBaseRefused : Profile → Option (Bor (List ℕ)) → Refusal → Type 0
 IsBaseRefused profile None refusal = ⊥
 IsBaseRefused profile (Some text) refusal = IsRefused profile None (chars text.now) refusal

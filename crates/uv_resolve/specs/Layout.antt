@@ -73,7 +73,7 @@ layout_of url = record {
   has_opaque_path = is_opaque url.path;
 }
 
--- the text is that of the URL, and is laid out so
+-- the text is the URL's, and is laid out so
 pub record IsLaid (url : Url) (laid : LaidUrl) : Type 0 where
   pub text : string_bytes laid.text ≡ serial url
   pub layout : laid.layout ≡ layout_of url

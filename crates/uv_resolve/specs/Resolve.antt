@@ -26,7 +26,7 @@ Denotes profile base text url = (parts : Parts) × Valid profile base text parts
 abbrev pub DenotesText : Profile → Option Url → List ℕ → List ℕ → Type 0
 DenotesText profile base bytes text = (url : Url) × Denotes profile base (chars bytes) url × (text ≡ serial url)
 
--- the parts are those of some valid text, of any profile
+-- the parts belong to some valid text, of any profile
 abbrev pub HaveValidText : Option Url → Parts → Type 0
 HaveValidText base parts = (profile : Profile) × (text : List ℕ) × Valid profile base text parts
 

@@ -3,19 +3,13 @@ use Rattle.std.specs.Prelude.{ℕ, List, Option, Result, Ok, Err, String, string
 use Rattle.std.specs.Str.{chars}
 use Rattle.std.specs.declared.alloc.Global.{Global}
 use Rattle.uv_model.specs.declared.profile.Profile.{Profile}
-use Rattle.uv_model.specs.Parts.{Parts}
 use Rattle.uv_model.specs.Records.Url.{Url}
-use Rattle.uv_model.specs.Valid.{Valid}
 use Rattle.uv_grammar.specs.Verdict.{IsRefused}
 use Rattle.uv_resolve.specs.Layout.{IsLaid}
 use Rattle.uv_resolve.specs.Resolve.{Denotes, DenotesText}
 use Rattle.uv_resolve.specs.declared.layout.LaidUrl.{LaidUrl}
 use Rattle.uv_resolve.specs.declared.fault.ResolveFault.{ResolveFault}
 use Rattle.uv_resolve.specs.declared.fault.ResolveFault.TheVariants.{Refused, Memory}
-
--- the text is valid with these parts, by some profile
-abbrev pub ArePartsOf : Option Url → List ℕ → Parts → Type 0
-ArePartsOf base text parts = (profile : Profile) × Valid profile base text parts
 
 -- the serialized URL that a valid text, given by its bytes, denotes, or the least violation of a text that is valid
 -- with no parts; a call out of memory is left open

@@ -6,8 +6,8 @@ use crate::resolver::resolve;
 use std::alloc::Global;
 use uv_model::{Profile, Record};
 
-/// The record of a base's text, which is resolved alone under the profile, and none if there is no base. A refused base
-/// is refused as a text alone is.
+/// The record of a base's text, which is resolved by itself under the profile, and none if there is no base. A base is
+/// refused as a text without a base is.
 pub fn resolve_base(
     alloc: Global,
     base: Option<&str>,

@@ -7,8 +7,8 @@ ghost use Rattle.uv_model.specs.declared.scheme.Class.{Class};
 use uv_grammar::{Form, Parts};
 use uv_model::Record;
 
-/// How the text of a URL is laid out (URL Standard, section 4.5). The ends are in bytes, and those of parts are after
-/// the marks before them: an absent part ends where what is before it does, and a fragment ends with the text.
+/// How the text of a URL is laid out (URL Standard, section 4.5). The ends are in bytes. A part begins with the mark
+/// before it, an absent part ends where the part before it does, and a fragment ends with the text.
 #[derive(Clone, Copy)]
 pub struct UrlLayout {
     /// After the scheme, before its `:`.
@@ -34,7 +34,7 @@ pub struct UrlLayout {
 pub struct LaidUrl {
     /// The URL, serialized.
     pub text: String,
-    /// Where its parts end, and of which kinds they are.
+    /// The ends of its parts, and their kinds.
     pub layout: UrlLayout,
 }
 

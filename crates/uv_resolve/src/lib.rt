@@ -20,4 +20,4 @@ pub use base::resolve_base;
 pub use fault::ResolveFault;
 pub use layout::{HostKind, LaidUrl, UrlLayout};
 pub use resolver::resolve;
-pub use serialized::{resolve_laid, resolve_serialized, serialized_text};
+pub use serialized::{resolve_laid, resolve_serialized, write_serialized};

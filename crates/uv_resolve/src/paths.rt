@@ -41,7 +41,7 @@ pub(crate) fn path_of(
 pub(crate) fn whole_path<'t>(class: Class, parts: &Parts<'t>) -> Option<&'t str>
     ensures { IfSome result (λ text. IsWholePath class parts.now (chars text.now)) }
 {
-    // For the proof alone: the clause of this call says how the segments follow from the path's text.
+    // Only for the proof: the clause of this call says how the segments follow from the path's text.
     let _segments = parts.segments();
     let text = parts.path_text();
     match parts.form() {

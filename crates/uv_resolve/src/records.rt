@@ -39,8 +39,8 @@ pub(crate) fn denoted(
     Ok(Record::make_with(scheme, host, port, path, query, fragment))
 }
 
-/// The class of the text's scheme, or of the base's where the text has none.
-pub(crate) fn class_in(parts: &Parts<'_>, base: Option<&Record>) -> Class
+// The class of the text's scheme, or of the base's where the text has none.
+fn class_in(parts: &Parts<'_>, base: Option<&Record>) -> Class
     ensures { result ≡ scheme_class (scheme_in (option_copied base.entry) parts.now) }
 {
     match parts.scheme() {
@@ -49,7 +49,8 @@ pub(crate) fn class_in(parts: &Parts<'_>, base: Option<&Record>) -> Class
     }
 }
 
-fn base_class(base: Option<&Record>) -> Class
+/// The class of a base's scheme.
+pub(crate) fn base_class(base: Option<&Record>) -> Class
     ensures { result ≡ scheme_class (spec.denoted_scheme (option_copied base.entry) None) }
 {
     match base {

@@ -41,13 +41,35 @@ pub(crate) fn lowered(alloc: Global, scheme: &str) -> Result<CowStr<'static>, Al
     }
 }
 
-/// Appends a scheme in lower case.
+/// Appends a scheme in lower case. The answer is its class.
 #[inline(always)]
-pub(crate) fn push_lowered(alloc: Global, out: &mut String, scheme: &str) -> Result<(), AllocError>
+pub(crate) fn push_lowered(
+    alloc: Global,
+    out: &mut String,
+    scheme: &str,
+) -> Result<Class, AllocError>
+    requires { IsAscii (chars scheme.now) }
+    ensures text { OnOk result (string_bytes out.new ≡ string_bytes out.old ++ lowercase (chars scheme.now)) }
+    ensures class { IfOk result (λ class. class ≡ scheme_class (chars scheme.now)) }
+{
+    match known_scheme(scheme) {
+        Some(known) => {
+            out.push_str(known.name)?;
+            Ok(known.class)
+        }
+        None => {
+            push_other(alloc, out, scheme)?;
+            Ok(class_of(scheme))
+        }
+    }
+}
+
+// Appends a scheme that few links have, in lower case.
+fn push_other(alloc: Global, out: &mut String, scheme: &str) -> Result<(), AllocError>
     requires { IsAscii (chars scheme.now) }
     ensures { OnOk result (string_bytes out.new ≡ string_bytes out.old ++ lowercase (chars scheme.now)) }
 {
-    match lower_name(scheme) {
+    match special_name(scheme) {
         Some(name) => out.push_str(name),
         None => out.push_str(scheme.to_ascii_lowercase(alloc)?.as_str()),
     }

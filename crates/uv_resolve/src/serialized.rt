@@ -1,13 +1,13 @@
 //! The serialized URL of a text, alone or against a base.
-ghost use Rattle.std.specs.Prelude.{◌≡◌, IfOk, chars, option_copied, string_bytes};
+ghost use Rattle.std.specs.Prelude.{◌≡◌, OnOk, chars, option_copied, string_bytes};
 ghost use Rattle.uv_model.specs.Records.Denote.{denote};
 ghost use Rattle.uv_model.specs.Records.Serialize.{serial};
-ghost use Rattle.uv_resolve.specs.Resolve.{RefusesWithoutMemory};
-ghost use Rattle.uv_resolve.specs.Serialized.{ArePartsOf, IsLaidAnswer, IsSerialized};
+ghost use Rattle.uv_resolve.specs.Resolve.{HaveValidText, RefusesWithoutMemory};
+ghost use Rattle.uv_resolve.specs.Serialized.{IsLaidAnswer, IsSerialized};
 
 use crate::fault::ResolveFault;
 use crate::layout::LaidUrl;
-use crate::writer::write_url;
+use crate::writer::{laid_url, write_url};
 use std::alloc::{AllocError, Global};
 use uv_grammar::{Parts, Verdict, check};
 use uv_model::{Profile, Record};
@@ -27,7 +27,7 @@ pub fn resolve_laid(
 {
     let verdict = check(alloc, text, base, profile)?;
     match &verdict {
-        Verdict::Yes(parts) => Ok(write_url(alloc, text, parts, base)?),
+        Verdict::Yes(parts) => Ok(laid_url(alloc, text, parts, base)?),
         Verdict::No(refusal) => Err(ResolveFault::Refused(*refusal)),
     }
 }
@@ -46,18 +46,19 @@ pub fn resolve_serialized(
     Ok(laid.text)
 }
 
-/// The serialized URL that the parts of a valid text denote against a base (URL Standard, section 4.5), so that a text
-/// that was checked isn't checked again. The parts are kept. The error is out of memory.
-pub fn serialized_text(
+/// Writes the serialized URL that the parts of a valid text denote against a base (URL Standard, section 4.5) over what
+/// a string holds. So a text that was checked isn't checked again, and one string serves for many texts. The error is
+/// out of memory.
+pub fn write_serialized(
     alloc: Global,
-    text: &str,
+    out: &mut String,
     parts: &Parts<'_>,
     base: Option<&Record>,
-) -> Result<String, AllocError>
-    requires { ArePartsOf (option_copied base) (chars text.now) parts.now }
-    ensures { IfOk result (λ written.
-        string_bytes written ≡ serial (denote (option_copied base.entry) parts.now)) }
+) -> Result<(), AllocError>
+    requires { HaveValidText (option_copied base) parts.now }
+    ensures { OnOk result (string_bytes out.new ≡ serial (denote (option_copied base.entry) parts.now)) }
 {
-    let laid = write_url(alloc, text, parts, base)?;
-    Ok(laid.text)
+    out.clear();
+    write_url(alloc, out, parts, base)?;
+    Ok(())
 }

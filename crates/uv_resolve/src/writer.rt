@@ -1,28 +1,30 @@
 //! The text of the URL that the parts of a text denote, written into one string (URL Standard, section 4.5).
-ghost use Rattle.std.specs.Prelude.{◌≡◌, ◌++◌, IfOk, OnOk, None, false, option_copied, option_map, string_bytes};
+ghost use Rattle.std.specs.Prelude.{◌≡◌, ◌++◌, [], IfOk, OnOk, None, false, option_copied, option_map, string_bytes};
 ghost use Rattle.uv_model.specs.Ascii.{number_sign, question_mark};
 ghost use Rattle.uv_model.specs.Encoding.{encoded};
 ghost use Rattle.uv_model.specs.Parts.{written_after};
 ghost use Rattle.uv_model.specs.Records.Denote as spec;
-ghost use Rattle.uv_model.specs.Records.Serialize.{serial_host};
+ghost use Rattle.uv_model.specs.Records.Serialize.{serial, serial_host};
+ghost use Rattle.uv_model.specs.Scheme.{scheme_class};
+ghost use Rattle.uv_model.specs.Valid.{scheme_in};
 ghost use Rattle.uv_grammar.specs.PartsHost.{referred};
-ghost use Rattle.uv_resolve.specs.Layout.{IsLaid, kind_of, marked_port};
+ghost use Rattle.uv_resolve.specs.Layout.{IsLaid, kind_of, layout_of, marked_port};
 ghost use Rattle.uv_resolve.specs.Resolve.{HaveValidText};
 ghost use Rattle.uv_resolve.specs.Written.{IsWrittenHost, IsWrittenPath};
 
 use crate::encoded_parts::push_encoded_part;
 use crate::layout::{HostKind, LaidUrl, UrlLayout, has_opaque_path};
 use crate::paths::{made_path, whole_path};
-use crate::records::{class_in, port_of, quotes};
+use crate::records::{base_class, port_of, quotes};
 use crate::schemes::push_lowered;
 use std::alloc::{AllocError, Global};
 use uv_grammar::{Form, HostRef, Parts};
 use uv_model::{Class, Host, Record, dot_prefix, push_ipv4, push_ipv6, push_port};
 
 /// The serialized URL that the parts of a text denote against the base, with room for all of it where the text is
-/// ASCII, and its layout, which is read while it is written. An error is out of memory.
+/// ASCII, and its layout. An error is out of memory.
 #[inline(always)]
-pub(crate) fn write_url(
+pub(crate) fn laid_url(
     alloc: Global,
     text: &str,
     parts: &Parts<'_>,
@@ -31,21 +33,38 @@ pub(crate) fn write_url(
     requires { HaveValidText (option_copied base) parts.now }
     ensures { IfOk result (IsLaid (spec.denote (option_copied base.entry) parts.now)) }
 {
-    let class = class_in(parts, base);
     let mut out = String::with_capacity(alloc, room_for(text, base))?;
-    push_scheme(alloc, &mut out, parts, base)?;
+    let layout = write_url(alloc, &mut out, parts, base)?;
+    Ok(LaidUrl { text: out, layout })
+}
+
+/// Writes the serialized URL that the parts of a text denote against the base into an empty string. Its layout is read
+/// while it is written. An error is out of memory.
+#[inline(always)]
+pub(crate) fn write_url(
+    alloc: Global,
+    out: &mut String,
+    parts: &Parts<'_>,
+    base: Option<&Record>,
+) -> Result<UrlLayout, AllocError>
+    requires empty { string_bytes out.old ≡ [] }
+    requires valid { HaveValidText (option_copied base) parts.now }
+    ensures text { IfOk result (λ _. string_bytes out.new ≡ serial (spec.denote (option_copied base.entry) parts.now)) }
+    ensures layout { IfOk result (λ layout. layout ≡ layout_of (spec.denote (option_copied base.entry) parts.now)) }
+{
+    let class = push_scheme(alloc, out, parts, base)?;
     let scheme_end = out.as_str().len();
-    let host = push_host(&mut out, parts, base)?;
+    let host = push_host(out, parts, base)?;
     let has_host = host.is_some();
     let host_end = out.as_str().len();
-    push_port_after(&mut out, has_host, parts, base)?;
+    push_port_after(out, has_host, parts, base)?;
     let port_end = out.as_str().len();
-    let path_start = push_path(alloc, &mut out, class, has_host, parts, base)?;
+    let path_start = push_path(alloc, out, class, has_host, parts, base)?;
     let path_end = out.as_str().len();
-    push_query(&mut out, class, parts, base)?;
+    push_query(out, class, parts, base)?;
     let query_end = out.as_str().len();
-    push_fragment(&mut out, parts)?;
-    let layout = UrlLayout {
+    push_fragment(out, parts)?;
+    Ok(UrlLayout {
         scheme_end,
         host_end,
         port_end,
@@ -54,16 +73,16 @@ pub(crate) fn write_url(
         query_end,
         host,
         has_opaque_path: has_opaque_path(parts, base),
-    };
-    Ok(LaidUrl { text: out, layout })
+    })
 }
 
-// The length of the text with the text of a base, of which a URL may have all but the fragment, and of a `/`. No clause
-// says it: a text that outgrows it is written all the same.
+// Room for most URLs, so that few of them are moved while they are written: for the text, a `/`, and what a URL has of
+// its base before the path. No clause says it: a text that outgrows it is written all the same.
 fn room_for(text: &str, base: Option<&Record>) -> usize {
     text.len().saturating_add(base_room(base)).saturating_add(1)
 }
 
+// Room for a base's scheme, and for the longest address with a port, which most names of hosts fit in.
 fn base_room(base: Option<&Record>) -> usize {
     match base {
         Some(base) => "://[1111:2222:3333:4444:5555:6666:7777:8888]:65535"
@@ -73,20 +92,25 @@ fn base_room(base: Option<&Record>) -> usize {
     }
 }
 
+// The scheme. The answer is its class.
 #[inline(always)]
 fn push_scheme(
     alloc: Global,
     out: &mut String,
     parts: &Parts<'_>,
     base: Option<&Record>,
-) -> Result<(), AllocError>
+) -> Result<Class, AllocError>
     requires { HaveValidText (option_copied base) parts.now }
-    ensures { OnOk result (string_bytes out.new
+    ensures text { OnOk result (string_bytes out.new
         ≡ string_bytes out.old ++ spec.denoted_scheme (option_copied base.entry) parts.now.scheme) }
+    ensures class { IfOk result (λ class. class ≡ scheme_class (scheme_in (option_copied base.entry) parts.now)) }
 {
     match parts.scheme() {
         Some(scheme) => push_lowered(alloc, out, scheme),
-        None => push_base_scheme(out, base),
+        None => {
+            push_base_scheme(out, base)?;
+            Ok(base_class(base))
+        }
     }
 }
 

@@ -38,7 +38,7 @@ pub(crate) fn digit_fault(text: &str) -> Option<Refusal>
     })
 }
 
-// The text of a port that is digits alone.
+// The text of a port that has only digits.
 fn check_digits(text: &str) -> Checked<Option<u16>>
     requires { list_all is_ascii_digit (chars text.now) ≡ true }
     ensures { IsChecked (FitsPort (chars text.now)) (PortViolation (chars text.now)) result }

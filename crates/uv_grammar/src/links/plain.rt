@@ -1,5 +1,5 @@
-//! The links that people write, known at one pass: a special scheme, a plain domain, a port or none, and a path, a query
-//! and a fragment of URL units. All other texts are checked by their parts.
+//! The links that people write, known at one pass: a special scheme, a plain domain, a port or none, and a path, a
+//! query and a fragment of URL units. All other texts are checked by their parts.
 ghost use Rattle.std.specs.Prelude.{◌<◌, Option, IfSome};
 ghost use Rattle.std.specs.Str.{chars};
 ghost use Rattle.uv_model.specs.declared.profile.Profile.{Profile};
@@ -58,8 +58,8 @@ pub(crate) fn plain_parts<'t>(
     build(text, texts, Some(host), start.port)
 }
 
-/// The texts of a plain start: a special scheme, `://`, a domain that is its own ASCII form, and a port or none. If
-/// there are none, that says nothing.
+/// The texts of a plain start: a special scheme, `://`, a domain that is its own ASCII form, and a port or none. `None`
+/// leaves it open whether there is one.
 #[inline(always)]
 pub(crate) fn plain_start<'t>(text: &'t str) -> Option<PlainStart<'t>>
     ensures { IfSome result (IsPlainStart (chars text.now)) }

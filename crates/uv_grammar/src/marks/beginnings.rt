@@ -155,7 +155,7 @@ fn is_scheme_byte(b: u8) -> bool
     b.is_ascii_alphanumeric() || (b == b'+' || (b == b'-' || b == b'.'))
 }
 
-/// Whether the text is digits alone.
+/// Whether the text has only digits.
 pub(crate) fn are_digits(text: &str) -> bool
     ensures { result ≡ list_all is_ascii_digit (chars text.now) }
 {

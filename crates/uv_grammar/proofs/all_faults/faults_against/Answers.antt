@@ -1,4 +1,4 @@
--- All the violations of the cut text are those of the text.
+-- All the violations of the cut text are violations of the text.
 use Rattle.std.proofs.Common.{List, arith, subst}
 use Rattle.std.specs.Str.{chars}
 use Rattle.uv_model.specs.declared.rule.Refusal.{Refusal}

@@ -1,4 +1,4 @@
--- Parts without a scheme denote the empty one alone.
+-- Parts without a scheme denote only the empty one.
 use Rattle.std.proofs.Common.{[], sym, ap}
 use Rattle.std.proofs.lemmas.Str.{chars-IsAscii}
 use Rattle.std.proofs.lemmas.Str.Ascii.{IsAscii-nil}

@@ -1,4 +1,4 @@
--- A plain link is valid alone.
+-- A plain link is valid without a base.
 use Rattle.std.specs.Prelude.{None}
 use Rattle.uv_grammar.proofs.checker.check_alone.Goals as goal
 

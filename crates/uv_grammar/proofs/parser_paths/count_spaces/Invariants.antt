@@ -1,4 +1,4 @@
--- So many spaces were counted, and those of what is left come to them.
+-- So many spaces were counted, and the spaces of what is left come to them.
 use Rattle.std.proofs.Common.{◌≡◌, ◌+◌, length}
 use Rattle.std.specs.List.{prefix_len}
 use Rattle.std.specs.Str.{IsUtf8, chars}

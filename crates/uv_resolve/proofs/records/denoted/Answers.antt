@@ -1,4 +1,4 @@
--- The fields are those of the denoted URL.
+-- The fields belong to the denoted URL.
 use Rattle.std.proofs.Common.{sym, ◌∙◌, subst}
 use Rattle.uv_model.specs.declared.profile.Profile.TheVariants.{Parser}
 use Rattle.uv_model.specs.Records.WellFormed.{WellFormed}

@@ -1,4 +1,4 @@
--- The check of a port of digits alone.
+-- The check of a port of only digits.
 use Rattle.std.proofs.Common.{◌∙◌, sym}
 use Rattle.std.specs.Str.{chars}
 use Rattle.uv_grammar.proofs.HostLemmas.{no_chars}

@@ -1,4 +1,4 @@
--- The parts of a plain link are those of its cut.
+-- The parts of a plain link are the parts of its cut.
 use Rattle.std.proofs.Common.{None, refl}
 use Rattle.std.specs.Str.{chars}
 use Rattle.uv_model.specs.declared.profile.Profile.TheVariants.{Wide}

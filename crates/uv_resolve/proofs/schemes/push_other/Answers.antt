@@ -3,7 +3,7 @@ use Rattle.std.proofs.Common.{sym, ap, ◌∙◌, string_bytes}
 use Rattle.uv_model.specs.Scheme.{lowercase}
 use Rattle.uv_model.proofs.Records.SerializerLemmas.{appended}
 use Rattle.uv_model.proofs.Texts.AsciiLemmas.{chars-from_IsAscii}
-use Rattle.uv_resolve.proofs.schemes.push_lowered.Goals as goal
+use Rattle.uv_resolve.proofs.schemes.push_other.Goals as goal
 
 pub returns-in_ok-to_ascii_lowercase-in-None : goal.returns-in_ok-to_ascii_lowercase-in-None
 returns-in_ok-to_ascii_lowercase-in-None c =
