@@ -19,7 +19,7 @@ pub record ListSetting : Type 0 where
   pub base : Option Url
   pub line_bytes : ℕ
 
--- what is said of a line
+-- what the report says of a line
 pub data Said : Type 0 where
   Same : List ℕ → Said
   Refused : Refusal → Said
@@ -32,7 +32,7 @@ pub record IsText (setting : ListSetting) (line : List ℕ) : Type 0 where
   pub short : length line ≤ setting.line_bytes
   pub utf8 : IsUtf8 line
 
--- What is said of a line: it is too long; otherwise it isn't UTF-8; otherwise it is refused, by its least violation;
+-- The answer about a line: it is too long; otherwise it isn't UTF-8; otherwise it is refused, by its least violation;
 -- otherwise it is accepted, and the second parser gives the same text or doesn't.
 abbrev pub IsSaid : ListSetting → List ℕ → Said → Type 0
 IsSaid setting line TooLong = setting.line_bytes < length line

@@ -1,6 +1,6 @@
 //! Finds what the report says about a line.
-ghost use Rattle.std.specs.Cow.{cow_str_bytes};
 ghost use Rattle.std.specs.Prelude.{◌≡◌, ◌≤◌, ◌↔◌, IfOk, IfErr, IsTrue, None, Some, length, option_copied};
+ghost use Rattle.std.specs.Prelude.{string_bytes};
 ghost use Rattle.std.specs.Str.{chars};
 ghost use Rattle.uv_grammar.specs.Verdict.{IsVerdict};
 ghost use Rattle.uv_lines.specs.Line.{bytes_of};
@@ -13,14 +13,13 @@ ghost use Rattle.uv_compare.specs.Second.{AgreesOnBase, second_base, second_text
 use crate::fault::{LinkFault, fault_of_room};
 use crate::said::Said;
 use std::alloc::{AllocError, Global};
-use std::borrow::CowStr;
 use std::marker::Model;
 use url::Url;
 use uv_compare::{RoomFault, read_as, reads_as};
 use uv_grammar::{Verdict, check, check_alone};
 use uv_lines::Line;
 use uv_model::{Profile, Record};
-use uv_resolve::serialized_text;
+use uv_resolve::write_serialized;
 
 /// What lines are checked with: the profile, the base, the base as the second parser reads it, and how many bytes a
 /// line may have.
@@ -78,69 +77,92 @@ impl<'b> LineChecker<'b> {
         self.line_bytes
     }
 
-    /// What is said about a line.
-    pub(crate) fn check<'l>(&self, alloc: Global, line: Line<'l>) -> Result<Said<'l>, RoomFault>
-        ensures { IfOk result (λ said. IsSaid self.now (bytes_of line.entry) (said_of said)) }
+    /// What is said about a line. If it is accepted, the text of its record is written over what the string holds.
+    pub(crate) fn check(
+        &self,
+        alloc: Global,
+        line: Line<'_>,
+        written: &mut String,
+    ) -> Result<Said, RoomFault>
+        ensures { IfOk result (λ said.
+            IsSaid self.now (bytes_of line.entry) (said_of said (string_bytes written.new))) }
     {
         if line.as_bytes().len() > self.line_bytes {
             return Ok(Said::TooLong);
         }
         match line.text() {
-            Ok(text) => self.check_text(alloc, text),
+            Ok(text) => self.check_text(alloc, text, written),
             Err(_) => Ok(Said::NotUtf8),
         }
     }
 
     // What is said about a line that isn't too long and is UTF-8.
-    fn check_text<'l>(&self, alloc: Global, text: &'l str) -> Result<Said<'l>, RoomFault>
+    fn check_text(&self, alloc: Global, text: &str, written: &mut String) -> Result<Said, RoomFault>
         requires { length text.now ≤ self.now.line_bytes }
-        ensures { IfOk result (λ said. IsSaid self.now text.now (said_of said)) }
+        ensures { IfOk result (λ said. IsSaid self.now text.now (said_of said (string_bytes written.new))) }
     {
         match self.base {
-            None => self.check_text_alone(alloc, text),
-            Some(base) => self.check_text_against(alloc, text, base),
+            None => self.check_text_alone(alloc, text, written),
+            Some(base) => self.check_text_against(alloc, text, base, written),
         }
     }
 
     // What is said, without a base, about a line that isn't too long and is UTF-8. Nothing else calls `check_alone`, so
     // the compiler inlines it here.
-    fn check_text_alone<'l>(&self, alloc: Global, text: &'l str) -> Result<Said<'l>, RoomFault>
+    fn check_text_alone(
+        &self,
+        alloc: Global,
+        text: &str,
+        written: &mut String,
+    ) -> Result<Said, RoomFault>
         requires short { length text.now ≤ self.now.line_bytes }
         requires alone { self.now.base ≡ None }
-        ensures { IfOk result (λ said. IsSaid self.now text.now (said_of said)) }
+        ensures { IfOk result (λ said. IsSaid self.now text.now (said_of said (string_bytes written.new))) }
     {
-        self.check_answer(alloc, text, &check_alone(alloc, text, self.profile))
+        self.check_answer(
+            alloc,
+            text,
+            &check_alone(alloc, text, self.profile),
+            written,
+        )
     }
 
     // What is said, against a base, about a line that isn't too long and is UTF-8.
-    fn check_text_against<'l>(
+    fn check_text_against(
         &self,
         alloc: Global,
-        text: &'l str,
+        text: &str,
         base: &Record,
-    ) -> Result<Said<'l>, RoomFault>
+        written: &mut String,
+    ) -> Result<Said, RoomFault>
         requires short { length text.now ≤ self.now.line_bytes }
         requires base { self.now.base ≡ Some base.now }
-        ensures { IfOk result (λ said. IsSaid self.now text.now (said_of said)) }
+        ensures { IfOk result (λ said. IsSaid self.now text.now (said_of said (string_bytes written.new))) }
     {
-        self.check_answer(alloc, text, &check(alloc, text, Some(base), self.profile))
+        self.check_answer(
+            alloc,
+            text,
+            &check(alloc, text, Some(base), self.profile),
+            written,
+        )
     }
 
     // What is said about a text with this answer of the checker. The answer is large, and stays where it was written.
-    fn check_answer<'l>(
+    fn check_answer(
         &self,
         alloc: Global,
-        text: &'l str,
+        text: &str,
         answer: &Result<Verdict<'_>, AllocError>,
-    ) -> Result<Said<'l>, RoomFault>
+        written: &mut String,
+    ) -> Result<Said, RoomFault>
         requires short { length text.now ≤ self.now.line_bytes }
         requires answer { IfOk answer.now (IsVerdict self.now.profile self.now.base (chars text.now)) }
-        ensures { IfOk result (λ said. IsSaid self.now text.now (said_of said)) }
+        ensures { IfOk result (λ said. IsSaid self.now text.now (said_of said (string_bytes written.new))) }
     {
         match answer {
             Ok(Verdict::Yes(parts)) => {
-                let written = serialized_text(alloc, text, parts, self.base)?;
-                self.compare(alloc, text, CowStr::Owned(written))
+                write_serialized(alloc, written, parts, self.base)?;
+                self.compare(alloc, text, written.as_str())
             }
             Ok(Verdict::No(refusal)) => Ok(Said::Refused(*refusal)),
             Err(AllocError) => Err(RoomFault::Memory),
@@ -148,18 +170,13 @@ impl<'b> LineChecker<'b> {
     }
 
     // What is said about a text that denotes a URL with this text.
-    fn compare<'l>(
-        &self,
-        alloc: Global,
-        text: &str,
-        written: CowStr<'l>,
-    ) -> Result<Said<'l>, RoomFault>
+    fn compare(&self, alloc: Global, text: &str, written: &str) -> Result<Said, RoomFault>
         requires short { length text.now ≤ self.now.line_bytes }
-        requires denotes { DenotesText self.now.profile self.now.base text.now (cow_str_bytes written) }
-        ensures { IfOk result (λ said. IsSaid self.now text.now (said_of said)) }
+        requires denotes { DenotesText self.now.profile self.now.base text.now written.now }
+        ensures { IfOk result (λ said. IsSaid self.now text.now (said_of said written.now)) }
     {
-        if self.agrees(alloc, text, written.as_str())? {
-            Ok(Said::Same(written))
+        if self.agrees(alloc, text, written)? {
+            Ok(Said::Same)
         } else {
             Ok(Said::Differs)
         }

@@ -2,7 +2,7 @@
 ghost use Rattle.std.specs.Prelude.{◌≡◌, ℕ, ◌+◌, ◌-◌, ◌^◌, ◌<◌, ◌++◌, List, OnOk, IfErr, IfOk, OnErr, option_map};
 ghost use Rattle.std.specs.Prelude.{string_bytes};
 ghost use Rattle.uv_lines.specs.Line.{bytes_of};
-ghost use Rattle.uv_links.specs.Report.{counted, report_line};
+ghost use Rattle.uv_links.specs.Report.{counted};
 ghost use Rattle.uv_links.specs.Reporting.{IsSaidOf, Says, none_counted};
 ghost use Rattle.uv_links.specs.Said.{said_of};
 
@@ -15,10 +15,12 @@ use uv_compare::RoomFault;
 use uv_io::Sink;
 use uv_lines::{Line, ReportFault, Reporter};
 
-/// The state of a report on a list of links: the checker of its lines, and the counts of the lines before.
+/// The state of a report on a list of links: the checker of its lines, and the counts of the lines before. The text of
+/// a line's record is written over the text of the line before, so that no line takes memory for it.
 #[derive(Drop)]
 pub(crate) struct LinkReporter<'b> {
     checker: LineChecker<'b>,
+    written: String,
     counts: Counts,
 }
 
@@ -35,7 +37,7 @@ impl<'b> Model for LinkReporter<'b> {
 
 impl<'b> LinkReporter<'b> {
     /// The state before the first line.
-    pub(crate) fn new(checker: LineChecker<'b>) -> LinkReporter<'b>
+    pub(crate) fn new(alloc: Global, checker: LineChecker<'b>) -> LinkReporter<'b>
         ensures { result ≡ record { setting = checker.entry; counts = none_counted } }
     {
         let counts = Counts {
@@ -44,7 +46,11 @@ impl<'b> LinkReporter<'b> {
             bad: 0,
             differs: 0,
         };
-        LinkReporter { checker, counts }
+        LinkReporter {
+            checker,
+            written: String::new(alloc),
+            counts,
+        }
     }
 
     /// The counts of the lines on which it has reported.
@@ -66,32 +72,14 @@ impl<'b> LinkReporter<'b> {
             × (text.new.items ≡ text.old.items ++ said)) }
         ensures none { OnErr result ((self.new ≡ self.old) × (text.new.items ≡ text.old.items)) }
     {
-        let said = check_line(alloc, &self.checker, line)?;
-        match self.add(said, text) {
-            Ok(()) => Ok(()),
-            Err(AllocError) => Err(RoomFault::Memory),
-        }
-    }
-
-    // Appends the line of the report, and counts it.
-    fn add(&mut self, said: Said<'_>, text: &mut Vec<u8>) -> Result<(), AllocError>
-        requires { self.old.counts.lines < 2 ^ 64 - 1 }
-        ensures text { OnOk result (text.new.items
-            ≡ text.old.items ++ report_line (self.old.counts.lines + 1) (said_of said.entry)) }
-        ensures counted { OnOk result (self.new
-            ≡ record { setting = self.old.setting; counts = counted self.old.counts (said_of said.entry) }) }
-        ensures none { OnErr result ((self.new ≡ self.old) × (text.new.items ≡ text.old.items)) }
-    {
-        let start = text.len();
-        match push_line(text, self.counts.lines + 1, &said) {
+        let said = check_line(alloc, &self.checker, line, &mut self.written)?;
+        let number = self.counts.lines + 1;
+        match push_line(text, number, said, self.written.as_str()) {
             Ok(()) => {
-                self.counts = with_line(self.counts, &said);
+                self.counts = with_line(self.counts, said);
                 Ok(())
             }
-            Err(AllocError) => {
-                text.truncate(start);
-                Err(AllocError)
-            }
+            Err(AllocError) => Err(RoomFault::Memory),
         }
     }
 }
@@ -137,29 +125,31 @@ impl<'b> Reporter for LinkReporter<'b> {
 }
 
 // What is said about a line, where `None` stands for one that is too long.
-fn check_line<'l>(
+fn check_line(
     alloc: Global,
     checker: &LineChecker<'_>,
-    line: Option<Line<'l>>,
-) -> Result<Said<'l>, RoomFault>
-    ensures { IfOk result (λ said. IsSaidOf checker.now (option_map bytes_of line.entry) (said_of said)) }
+    line: Option<Line<'_>>,
+    written: &mut String,
+) -> Result<Said, RoomFault>
+    ensures { IfOk result (λ said.
+        IsSaidOf checker.now (option_map bytes_of line.entry) (said_of said (string_bytes written.new))) }
 {
     match line {
-        Some(line) => checker.check(alloc, line),
+        Some(line) => checker.check(alloc, line, written),
         None => Ok(Said::TooLong),
     }
 }
 
 // The counts with one more line.
-fn with_line(counts: Counts, said: &Said<'_>) -> Counts
+fn with_line(counts: Counts, said: Said) -> Counts
     requires few { counts.lines < 2 ^ 64 - 1 }
     requires whole { counts.ok + counts.bad + counts.differs ≡ counts.lines }
-    ensures { result ≡ counted counts (said_of said.now) }
+    ensures { (text : List ℕ) → result ≡ counted counts (said_of said text) }
 {
     let mut counts = counts;
     counts.lines += 1;
     match said {
-        Said::Same(_) => counts.ok += 1,
+        Said::Same => counts.ok += 1,
         Said::Refused(_) | Said::NotUtf8 | Said::TooLong => counts.bad += 1,
         Said::Differs => counts.differs += 1,
     }

@@ -64,7 +64,7 @@ pub fn run_links<R: Source, W: Sink>(
         line_bytes: limits.line_bytes(),
         lines: limits.lines(),
     };
-    let reporter = LinkReporter::new(checker);
+    let reporter = LinkReporter::new(alloc, checker);
     let (reporter, answer) = run_lines(alloc, reader, writer, reporter, limits, Frame::none());
     match answer {
         Ok(()) => Ok(reporter.counts()),

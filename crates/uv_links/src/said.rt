@@ -6,14 +6,13 @@ ghost use Rattle.uv_links.specs.Said.{said_of};
 
 use itoa::Buffer;
 use std::alloc::AllocError;
-use std::borrow::CowStr;
 use uv_model::Refusal;
 
-/// What is said about a line.
-#[derive(Drop)]
-pub(crate) enum Said<'l> {
-    /// It is accepted, and the second parser reads it as the same text, which is that of its record.
-    Same(CowStr<'l>),
+/// The answer about a line.
+#[derive(Clone, Copy)]
+pub(crate) enum Said {
+    /// It is accepted, and the second parser reads it as the same text, which is the text of its record.
+    Same,
     /// It is refused.
     Refused(Refusal),
     /// It isn't UTF-8.
@@ -24,26 +23,51 @@ pub(crate) enum Said<'l> {
     Differs,
 }
 
-/// Appends one line of the report, with its LF. The number is the line's in its list, from 1. An error means that
-/// memory ran out: `out` then still begins with what it held.
+/// Appends one line of the report, with its LF. The number is the line's in its list, from 1, and the text is its
+/// record's, if it has one. An error means that memory ran out, and nothing was appended.
+pub(crate) fn push_line(
+    out: &mut Vec<u8>,
+    number: u64,
+    said: Said,
+    written: &str,
+) -> Result<(), AllocError>
+    ensures ok { OnOk result (out.new.items ≡ out.old.items ++ report_line number (said_of said written.now)) }
+    ensures err { OnErr result (out.new.items ≡ out.old.items) }
+{
+    let start = out.len();
+    match push_numbered(out, number, said, written) {
+        Ok(()) => Ok(()),
+        Err(AllocError) => {
+            out.truncate(start);
+            Err(AllocError)
+        }
+    }
+}
+
+// Appends one line. After an error `out` still begins with what it held.
 #[tactic(auto, unfolding(crate::specs::Report::report_line))]
-pub(crate) fn push_line(out: &mut Vec<u8>, number: u64, said: &Said<'_>) -> Result<(), AllocError>
-    ensures ok { OnOk result (out.new.items ≡ out.old.items ++ report_line number (said_of said.now)) }
+fn push_numbered(
+    out: &mut Vec<u8>,
+    number: u64,
+    said: Said,
+    written: &str,
+) -> Result<(), AllocError>
+    ensures ok { OnOk result (out.new.items ≡ out.old.items ++ report_line number (said_of said written.now)) }
     ensures err { OnErr result (StartsWith out.new.items out.old.items) }
 {
     let mut buffer = Buffer::new();
     push(out, buffer.format(number))?;
-    push_said(out, said)
+    push_said(out, said, written)
 }
 
 // What is after the number, with the LF.
-fn push_said(out: &mut Vec<u8>, said: &Said<'_>) -> Result<(), AllocError>
-    ensures ok { OnOk result (out.new.items ≡ out.old.items ++ said_text (said_of said.now)) }
+fn push_said(out: &mut Vec<u8>, said: Said, written: &str) -> Result<(), AllocError>
+    ensures ok { OnOk result (out.new.items ≡ out.old.items ++ said_text (said_of said written.now)) }
     ensures err { OnErr result (StartsWith out.new.items out.old.items) }
 {
     match said {
-        Said::Same(text) => push_same(out, text.as_str()),
-        Said::Refused(refusal) => push_refusal(out, *refusal),
+        Said::Same => push_same(out, written),
+        Said::Refused(refusal) => push_refusal(out, refusal),
         Said::NotUtf8 => push(out, " bad 0 not-utf8\n"),
         Said::TooLong => push(out, " bad 0 line-too-long\n"),
         Said::Differs => push(out, " differs\n"),

@@ -1,6 +1,5 @@
 -- A text that the second parser reads as the record's text, and one that it reads as another.
-use Rattle.std.specs.Cow.{cow_str_bytes}
-use Rattle.std.proofs.Common.{Some, ap, sym, ◌∙◌}
+use Rattle.std.proofs.Common.{sym, ◌∙◌}
 use Rattle.std.proofs.lemmas.Bool.{false≢true}
 use Rattle.uv_links.proofs.line_checker.LineChecker.compare.Goals as goal
 
@@ -8,16 +7,15 @@ pub returns-then-branch : goal.returns-then-branch
 returns-then-branch c = (
   record { short = c.requires.short; utf8 = c.utf8.text },
   c.requires.denotes,
-  c.in_ok-agrees.ensures.0 c.if-branch.true ∙ ap Some c.as_str.ensures.value,
+  c.in_ok-agrees.ensures.0 c.if-branch.true,
 )
 
-pub returns : goal.returns
-returns c = (
+pub returns-else-branch : goal.returns-else-branch
+returns-else-branch c = (
   record { short = c.requires.short; utf8 = c.utf8.text },
   (
-    cow_str_bytes c.args.written,
+    c.args.written.now,
     c.requires.denotes,
-    λ same. false≢true (sym c.if-branch.false
-        ∙ c.in_ok-agrees.ensures.1 (same ∙ ap Some (sym c.as_str.ensures.value))),
+    λ same. false≢true (sym c.if-branch.false ∙ c.in_ok-agrees.ensures.1 same),
   ),
 )

@@ -1,4 +1,4 @@
--- What is said of a line waits, and nothing if it can't be said.
+-- The answer about a line waits, and nothing if it can't be said.
 use Rattle.std.proofs.Common.{refl, ap}
 use Rattle.std.specs.Prelude.{option_map}
 use Rattle.uv_lines.specs.Line.{bytes_of}
