@@ -58,6 +58,14 @@ no-scheme|'https://e.com/'|the link is in quotation marks; leave both of them ou
 no-scheme|\xe2\x80\x9curn:a\xe2\x80\x9d|the link is in quotation marks; leave both of them out
 no-scheme|\xe2\x80\x98urn:a\xe2\x80\x99|the link is in quotation marks; leave both of them out
 no-scheme|\xc2\xaburn:a\xc2\xbb|the link is in quotation marks; leave both of them out
+no-scheme|\xe2\x80\x9ehttp://h/\xe2\x80\x9c|the link is in quotation marks; leave both of them out
+no-scheme|\xe2\x80\x9ehttp://h/\xe2\x80\x9d|the link is in quotation marks; leave both of them out
+no-scheme|\xe2\x80\x9ahttp://h/\xe2\x80\x98|the link is in quotation marks; leave both of them out
+no-scheme|\xc2\xbbhttp://h/\xc2\xab|the link is in quotation marks; leave both of them out
+no-scheme|\xe2\x80\x9ehttp://h/|U+201E \xe2\x80\x9e is before the scheme; leave it out
+no-scheme|*https://a/*|the link is in asterisks; leave both of them out
+no-scheme|_https://a/_|the link is in underscores; leave both of them out
+no-scheme|*https://a/|U+002A ASTERISK is before the scheme; leave it out
 no-scheme|(mailto:a%40b)|the link is in parentheses; leave both of them out
 no-scheme|<https://a/>|the link is in angle brackets; leave both of them out
 no-scheme|[https://a/]|the link is in square brackets; leave both of them out
@@ -70,6 +78,13 @@ no-scheme|https//:example.com|there is no scheme and no base; write :// in place
 no-scheme|https;//e.com|there is no scheme and no base; U+003B SEMICOLON is in place of a colon
 no-scheme|http\xef\xbc\x9a//e.com/|there is no scheme and no base; U+FF1A \xef\xbc\x9a is in place of a colon
 no-scheme|http;/e.com|there is no scheme and no base
+no-scheme|https ://e.com/|there is no scheme and no base; U+0020 SPACE is not allowed in a scheme
+no-scheme|ht tp://e.com/|there is no scheme and no base; U+0020 SPACE is not allowed in a scheme
+no-scheme|http_s://e.com/|there is no scheme and no base; U+005F LOW LINE is not allowed in a scheme
+no-scheme|h**p://e.com/|there is no scheme and no base; U+002A ASTERISK is not allowed in a scheme
+no-scheme|a b:/c|there is no scheme and no base
+no-scheme|1 a://c|there is no scheme and no base
+no-scheme|example.com?u=http://h/|there is no scheme and no base; write https:// before a host, or give the address of its page (--base)
 no-scheme|foo//a|there is no scheme and no base
 no-scheme|//h:80a/|there is no scheme and no base; write https: before it, or give the address of its page (--base)
 no-scheme|www.example.com|there is no scheme and no base; write https:// before a host, or give the address of its page (--base)
@@ -83,9 +98,17 @@ no-scheme|[x]/|there is no scheme and no base
 no-scheme|127.0.0.1:x|there is no scheme and no base
 no-scheme|[a](https://e.com/)|there is no scheme and no base; this looks like Markdown: check the link in it
 no-scheme|**https://e.com/**|there is no scheme and no base; this looks like Markdown: check the link in it
+no-scheme|![a](https://e.com/b.png)|there is no scheme and no base; this looks like Markdown: check the link in it
+no-scheme|href="https://e.com/"|there is no scheme and no base; this looks like HTML: check the link in it
+no-scheme|data-src='a.png'|there is no scheme and no base; this looks like HTML: check the link in it
+no-scheme|a=b|there is no scheme and no base
+no-scheme|="b"|there is no scheme and no base
 no-scheme|README.md|there is no scheme and no base; give the address of its page (--base)
 no-scheme|index.html#top|there is no scheme and no base; give the address of its page (--base)
 no-scheme|main.css|there is no scheme and no base; give the address of its page (--base)
+no-scheme|docs/index.html|there is no scheme and no base; give the address of its page (--base)
+no-scheme|a b/c.png?d|there is no scheme and no base; give the address of its page (--base)
+no-scheme|a/b|there is no scheme and no base
 no-scheme|v1.2.3|there is no scheme and no base; give the address of its page (--base)
 no-scheme|./a b.html|there is no scheme and no base; give the address of its page (--base)
 no-scheme|../a|there is no scheme and no base; give the address of its page (--base)
@@ -94,6 +117,15 @@ no-scheme|#top|there is no scheme and no base; give the address of its page (--b
 no-scheme|?q=1|there is no scheme and no base; give the address of its page (--base)
 no-scheme|user\x40example.com|there is no scheme and no base; write mailto: before an address
 no-scheme|user_a\x40example.com|there is no scheme and no base; write mailto: before an address
+no-scheme|user+tag\x40example.com|there is no scheme and no base; write mailto: before an address
+no-scheme|git+s_h://h/|there is no scheme and no base; U+005F LOW LINE is not allowed in a scheme
+no-scheme|a#b://c|there is no scheme and no base
+no-scheme|www.example.js|there is no scheme and no base; write https:// before a host, or give the address of its page (--base)
+no-scheme|-a.example|there is no scheme and no base
+no-scheme|a](b)|there is no scheme and no base
+no-scheme|a b="c"|there is no scheme and no base
+no-scheme|1:/a b|there is no scheme and no base
+no-scheme|\thttps://a/|U+0009 CHARACTER TABULATION is before the scheme; leave it out
 no-scheme|\x40example.com|there is no scheme and no base
 no-scheme|git\x40example.com:a/b.git|there is no scheme and no base; this looks like a path of ssh
 no-scheme|a_b.c/|there is no scheme and no base
@@ -102,6 +134,11 @@ no-scheme|{{ page.url }}|there is no scheme and no base; this looks like a templ
 no-scheme|{% url 'a' %}|there is no scheme and no base; this looks like a template: check what it makes
 no-scheme|\\\\server\\share|there is no scheme and no base; this looks like a path of Windows, whose URL begins with file:///
 ROWS
+
+# A path is told by an ending that files have and domains hardly ever.
+says < <(for end in md html htm xhtml css js mjs ts json xml yml yaml toml csv txt rst pdf svg png jpg jpeg gif webp php; do
+    echo "no-scheme|a/b.$end|there is no scheme and no base; give the address of its page (--base)"
+done)
 
 # Templates, by each mark of one.
 template='; this looks like a template: check what it makes'
@@ -120,6 +157,11 @@ code-point|https://h/@@<id>|U+003C LESS-THAN SIGN $url$template
 code-point|https://h/v@@<id>/x|U+003C LESS-THAN SIGN $url$template
 code-point|https://h/@@<a>-<b>.html|U+003C LESS-THAN SIGN $url$template
 code-point|https://h/?q=@@<a>&b|U+003C LESS-THAN SIGN $url$template
+code-point|https://h/@@<my_id>|U+003C LESS-THAN SIGN $url$template
+code-point|https://h/@@<my-id>|U+003C LESS-THAN SIGN $url$template
+code-point|https://h/@@[ID2]|U+005B LEFT SQUARE BRACKET $url$template
+code-point|https://h/\x40My_call(a)@@ b|U+0020 SPACE $url$template
+port-digit|https://h:@@PORT/|U+0050 LATIN CAPITAL LETTER P is not allowed in a port$template
 code-point|https://h/@@<%= id %>|U+003C LESS-THAN SIGN $url$template
 code-point|https://h/@@[ID]|U+005B LEFT SQUARE BRACKET $url$template
 code-point|https://h/\$VERSION/a@@ b|U+0020 SPACE $url$template
@@ -132,7 +174,7 @@ host-domain|https://@@YOUR_DOMAIN/x|U+005F LOW LINE is not allowed in a domain$t
 host-domain|https://@@HOST_2:80/|U+005F LOW LINE is not allowed in a domain$template
 host-domain|https://@@%DOMAIN%/x|U+0025 PERCENT SIGN is not allowed in a domain$template
 ROWS
-# Each sign of a template and a link that shows it: the page has the same rows, and the program says so of each link. In code
+# Each sign of a template and a link that shows it: the page has the same signs, and the program says so of each link. In code
 # only the first nine are such signs.
 cat >"$room/signs" <<'ROWS'
 {{ }}	https://h/{{ id }}
@@ -167,14 +209,14 @@ python3 - "$room" "$here/../../docs/FORMATS.md" <<'PYTHON' || fail "signs of tem
 import re, sys
 room, page = sys.argv[1:]
 signs = [row.split("\t") for row in open(room + "/signs", encoding="utf-8").read().split("\n")[:-1]]
-table = open(page, encoding="utf-8").read().split("| Template | Example |\n|---|---|\n")[1].split("\n\n")[0].strip().split("\n")
-told = [[cell.replace("\\|", "|") for cell in re.fullmatch("[|] `(.*)` [|] `(.*)` [|]", row).groups()] for row in table]
+block = open(page, encoding="utf-8").read().split("\nThese signs show a template.")[1].split("```text\n")[1].split("\n```")[0]
+told = re.split("  |\n", block)
 links = [link for _, link in signs]
 open(room + "/shown", "w", encoding="utf-8").write("\n".join(links + [it.replace("https://h/", "data:,") for it in links[:9]]) + "\n")
 code = [it.replace("https://h/", "data:,") for it in links[9:] if it.startswith("https://h/")]
 open(room + "/code", "w", encoding="utf-8").write("\n".join(code) + "\n")
-open(room + "/wrong", "w", encoding="utf-8").write("" if told == signs else f"the page has {told}")
-sys.exit(told != signs)
+open(room + "/wrong", "w", encoding="utf-8").write("" if told == [sign for sign, _ in signs] else f"the page has {told}")
+sys.exit(told != [sign for sign, _ in signs])
 PYTHON
 "$program" lint --quiet --format json "$room/shown" >"$room/out" 2>"$room/err"
 ends_with 1 $? '' 'links that show a template'
@@ -215,6 +257,9 @@ percent|https://h/100@@%discount|U+0025 PERCENT SIGN has to be followed by two h
 code-point|https://h/?\$filter=a@@ b|U+0020 SPACE $url
 code-point|https://h/a@@<b c>|U+003C LESS-THAN SIGN $url
 code-point|https://h/a@@<b>c|U+003C LESS-THAN SIGN $url
+code-point|https://h/@@<1>|U+003C LESS-THAN SIGN $url
+code-point|https://h/a@@ b\x40Abc|U+0020 SPACE $url
+percent|https://h/@@%G%|U+0025 PERCENT SIGN has to be followed by two hex digits
 ROWS
 # Lines of HTML: a tag begins them, with an attribute or before the end of one. Against a base nothing else is wrong.
 html='; this looks like HTML: check the links in it'
@@ -231,30 +276,65 @@ code-point|@@<p>text</p>|U+003C LESS-THAN SIGN $url$html
 code-point|@@<p|U+003C LESS-THAN SIGN $url
 ROWS
 
-# Paths of Windows, drive letters, two schemes, a link after a space, and escapes of JavaScript.
+# Paths of Windows, drive letters, two schemes, a link after a space, text after a link, and escapes of JavaScript.
 windows='; this looks like a path of Windows, whose URL begins with file:///'
 schemes='; this has two schemes: write one of them'
 later='; a link begins after a space: write it by itself'
+text='; this looks like text after a link: write the link by itself'
 says <<ROWS
 code-point|C:@@\\\\a|U+005C REVERSE SOLIDUS $url$windows
 code-point|D:/x@@ y/z.html|U+0020 SPACE $url$windows
 code-point|file:///C@@\\0174/x|U+007C VERTICAL LINE $url; a drive letter is written with :
 two-slashes|FILE:@@z\\0174?q|// has to follow this scheme; a drive letter is written with :
 code-point|file:///C@@\\0174x|U+007C VERTICAL LINE $url
+code-point|file:///1@@\\0174/x|U+007C VERTICAL LINE $url
 code-point|file:///x/C@@\\0174/|U+007C VERTICAL LINE $url
 code-point|http://h/@@\\0174/|U+007C VERTICAL LINE $url
 first-segment-empty|http://http:/@@/x|the path begins with //$schemes
-first-segment-empty|https://https/@@/example.com/|the path begins with //$schemes
+first-segment-empty|https://https/@@/example.com/x|the path begins with //$schemes
 two-slashes|HTTP:@@https://x|// has to follow this scheme$schemes
 code-point|https://a/@@ https://b/|U+0020 SPACE $url$later
 code-point|https://a/?u=@@ https://b/|U+0020 SPACE $url$later
 code-point|https://a/@@ www.example.com|U+0020 SPACE $url$later
+code-point|URL:@@ https://example.com/ x|U+0020 SPACE $url$later
 no-scheme|example.com https://b/|there is no scheme and no base$later
 no-scheme|see http://b/|there is no scheme and no base$later
 no-scheme| https://a/ https://b/|U+0020 SPACE is before the scheme; leave it out
 code-point|https://a/@@ wwwb|U+0020 SPACE $url
+code-point|https://shop.example/@@ and more|U+0020 SPACE $url$text
+code-point|HTTP://h/a/@@  # home page.|U+0020 SPACE $url$text
+code-point|https://h/a.html@@ (see below)|U+0020 SPACE $url$text
+code-point|https://h/a.pdf@@ 3 MB|U+0020 SPACE $url$text
+code-point|https://h/a.htm@@ b c|U+0020 SPACE $url$text
+code-point|https://h/a.php@@ b c|U+0020 SPACE $url$text
+host-domain|https://@@shop.example and more|U+0020 SPACE is not allowed in a domain$text
+code-point|https://h/@@ more|U+0020 SPACE $url
+code-point|https://h/@@  more |U+0020 SPACE $url
+code-point|https://h/a@@ b c|U+0020 SPACE $url
+code-point|https://h/@@ a b/c|U+0020 SPACE $url
+code-point|https://h/@@ a b.html|U+0020 SPACE $url
+code-point|https://h/node.js@@ a b|U+0020 SPACE $url
+code-point|https://h/?u=a/@@ b c|U+0020 SPACE $url
+code-point|https://h/#a.html@@ b c|U+0020 SPACE $url
+code-point|foo://h/@@ b c|U+0020 SPACE $url
+host-domain|https://@@exa mple com|U+0020 SPACE is not allowed in a domain
 percent|https://h/@@%u00e9|U+0025 PERCENT SIGN has to be followed by two hex digits; %u isn't an escape of URLs: write those of UTF-8
+percent|https://h/@@%ux|U+0025 PERCENT SIGN has to be followed by two hex digits
 ROWS
+
+# Where the sentence says which part is meant, no note follows that names all of it.
+printf '%s\n' https://https//example.com/x 'URL: https://example.com/ x' 'https://h/ and more' >"$room/each"
+expect 1 "each:1:15: error: the path begins with //$schemes [first-segment-empty]
+https://https//example.com/x
+              ^
+each:2:5: error: U+0020 SPACE $url$later [code-point]
+URL: https://example.com/ x
+    ^
+each:3:11: error: U+0020 SPACE $url$text [code-point]
+https://h/ and more
+          ^
+note: the same URL, written validly, is https://h/%20and%20more
+" 'urlcheck: 3 lines, 3 refused\n' lint --format caret each
 
 # A host and its port in place of a scheme, and a scheme that is likely misspelled.
 read_as='; what is before : is read as a scheme: write http:// before a host'
@@ -274,6 +354,8 @@ code-point|hhtp://example.com/a@@ b|U+0020 SPACE $url$perhaps
 host-code-point|htpps://a@@^/|U+005E CIRCUMFLEX ACCENT is not allowed in a host$perhaps
 code-point|https://example.com/a@@ b|U+0020 SPACE $url
 code-point|htp:a@@ b|U+0020 SPACE $url
+code-point|hp://h/a@@ b|U+0020 SPACE $url
+code-point|ht://h/a@@ b|U+0020 SPACE $url
 code-point|ssh://h/a@@ b|U+0020 SPACE $url
 code-point|sftp://h/a@@ b|U+0020 SPACE $url
 ROWS
@@ -311,6 +393,14 @@ host-domain|http://@@100%.example/|U+0025 PERCENT SIGN $domain
 host-domain|http://@@*.example.com/|U+002A ASTERISK $domain
 host-domain|http://@@example.com,/|U+002C COMMA $domain
 host-domain|http://@@example.com,|U+002C COMMA $domain; leave it out
+host-domain|http://@@example.com;|U+003B SEMICOLON $domain; leave it out
+host-domain|http://@@example.com!|U+0021 EXCLAMATION MARK $domain; leave it out
+host-domain|http://@@example.com>|U+003E GREATER-THAN SIGN $domain; leave it out
+host-domain|http://@@example.com)|U+0029 RIGHT PARENTHESIS $domain; leave it out
+host-domain|http://@@example.com]|U+005D RIGHT SQUARE BRACKET $domain; leave it out
+host-domain|http://@@example.com"|U+0022 QUOTATION MARK $domain; leave it out
+host-domain|http://@@example.com'|U+0027 APOSTROPHE $domain; leave it out
+host-domain|http://@@example.com\x60|U+0060 GRAVE ACCENT $domain; leave it out
 host-domain|http://@@a,b,|U+002C COMMA $domain
 host-domain|http://@@example.com_|U+005F LOW LINE $domain$wide
 host-domain|http://@@exa mple.com/|U+0020 SPACE $domain
@@ -319,11 +409,20 @@ host-domain|file://@@~/x|U+007E TILDE $domain: write the whole path after file:/
 host-domain|http://@@~/x|U+007E TILDE $domain
 host-domain|http://@@example.com\xef\xbc\x8fa|U+FF0F \xef\xbc\x8f is in place of /
 host-domain|http://@@h\xef\xbc\x9a80/|U+FF1A \xef\xbc\x9a is in place of :
+host-domain|http://@@h\xef\xbc\x9fq|U+FF1F \xef\xbc\x9f is in place of ?
+host-domain|http://@@h\xef\xbc\x83f|U+FF03 \xef\xbc\x83 is in place of #
+host-domain|http://@@a\xef\xbd\x9e/|U+FF5E \xef\xbd\x9e is read as ~, which $domain
 host-domain|http://@@a\xef\xbc\x81.b/|U+FF01 \xef\xbc\x81 is read as !, which $domain
 host-domain|http://@@\xef\xbc\xa1..b/|a label of this domain is empty
 host-domain|http://@@\xd7\x90a.com/|a label of this domain mixes right-to-left letters with Latin ones
 host-domain|http://@@b.\xd9\xa0example/|a label of this domain mixes right-to-left letters with Latin ones
 host-domain|http://@@\xd8\xa7\xd9\xb1\xd9\xaez.b/|a label of this domain mixes right-to-left letters with Latin ones
+host-domain|http://@@a\xe2\x80\x8db.com/|U+200D, which nobody sees, is in this domain: leave it out
+host-domain|http://@@a\xe2\x80\x8cb.com/|U+200C, which nobody sees, is in this domain: leave it out
+host-domain|http://@@${long//a/\\xc3\\xa9}\xe2\x80\x8d.b/|U+200D, which nobody sees, is in this domain: leave it out
+host-domain|http://@@\xd9\xaea.com/|a label of this domain mixes right-to-left letters with Latin ones
+host-domain|http://@@\xd9\xb1a.com/|a label of this domain mixes right-to-left letters with Latin ones
+host-domain|http://@@c\0174/|U+007C VERTICAL LINE $domain
 host-domain|http://@@\xd7\x90.b..c/|a label of this domain is empty
 host-domain|http://@@a!..b|U+0021 EXCLAMATION MARK $domain
 host-domain|http://@@\xc3\xa9_/|U+005F LOW LINE $domain$wide
@@ -359,11 +458,16 @@ host-domain|http://@@x_y!/|U+0021 EXCLAMATION MARK $domain
 host-domain|http://@@-a..b/|a label of this domain is empty
 host-domain|http://@@$long/|a label of this domain has more than 63 code points
 host-domain|http://@@-a--b.xn--a-/|xn--a- is not the Punycode of a valid label
+host-domain|http://@@$name.$name.$name.xn--a-.$name/|xn--a- is not the Punycode of a valid label
+host-domain|http://@@\xd7\x90a.com/|a label of this domain mixes right-to-left letters with Latin ones
 ROWS
 says --profile parser <<ROWS
 host-domain|http://@@x_y! z/|U+0020 SPACE $domain
 host-domain|http://@@a..%20/|the host that begins here is not a valid domain
 host-domain|http://@@%s/x|the host that begins here is not a valid domain$template
+host-domain|http://@@\xd7\x90a.com/|a label of this domain mixes right-to-left letters with Latin ones
+host-domain|http://@@\xd7\x90%31a/|the host that begins here is not a valid domain
+host-domain|http://@@xn--$long-/|a label that begins with xn-- is not the Punycode of a valid one
 ROWS
 
 # Hosts that end in a number, and hosts in brackets. A long number isn't repeated.
@@ -377,6 +481,10 @@ host-number|http://@@1.2.3.4.5:80/|an IPv4 address has four numbers, and this on
 host-number|http://@@256.0.0.1/|256 is above 255, the largest number of an IPv4 address
 host-number|http://@@1.2.3.1000?q|1000 is above 255, the largest number of an IPv4 address
 host-number|http://@@1.2.3.4./|an IPv4 address has no full stop at its end
+host-number|http://@@255.0.0.1./|an IPv4 address has no full stop at its end
+host-number|http://@@1.2.3.9999999999999999/|9999999999999999 is above 255, the largest number of an IPv4 address
+host-number|http://@@1.2.3.99999999999999999/|a number of this host is above 255, the largest number of an IPv4 address
+host-number|http://@@a-b.0x1/|the host that begins here ends in a number, and is not an IPv4 address
 host-number|http://@@a.b.1/|the host that begins here ends in a number, and is not an IPv4 address
 host-number|http://@@\xef\xbc\x91.2.3.4/|the host that begins here ends in a number, and is not an IPv4 address
 host-number|http://@@1.2.3.${long//aaaa/999}/|a number of this host is above 255, the largest number of an IPv4 address
@@ -386,6 +494,8 @@ host-ipv6|http://@@[1::2::3]/|:: is twice in this IPv6 address
 host-ipv6|http://@@[fe80::1%25eth0]/|an IPv6 address in a URL has no zone: leave out the % and what follows it
 host-ipv6|foo://@@[::1%1]:80|an IPv6 address in a URL has no zone: leave out the % and what follows it
 host-ipv6|http://@@[x%1]/|U+0078 LATIN SMALL LETTER X is not a hex digit of an IPv6 address
+host-ipv6|http://@@[::g]/|U+0067 LATIN SMALL LETTER G is not a hex digit of an IPv6 address
+host-ipv6|http://@@[a\x40h/|a URL string has no credentials: no user name, password or \x40 before its host; leave them out
 host-ipv6|http://@@[1:2:3]/|an IPv6 address has eight pieces, and this one has 3
 host-ipv6|http://@@[]/|an IPv6 address is missing in these brackets
 host-ipv6|http://@@[1:2:3:4:5:6:7:8:9]/|an IPv6 address has eight pieces, and this one has 9
@@ -424,6 +534,7 @@ drive-after-host|file://h@@/C:/x|the path after this host begins with a drive le
 drive-after-host|file://h@@/C:/x^|the path after this host begins with a drive letter
 percent|http://h/@@%4|U+0025 PERCENT SIGN has to be followed by two hex digits; this escape is cut off
 code-point|http://h/@@\xef\xbf\xbf|U+FFFF <noncharacter> $url
+code-point|http://h/@@\xef\xbf\xbe|U+FFFE <noncharacter> $url
 code-point|http://h/@@\xef\xb7\x90|U+FDD0 <noncharacter> $url
 code-point|http://h/@@\xef\xb7\xaf|U+FDEF <noncharacter> $url
 code-point|http://h/@@\xf4\x8f\xbf\xbf|U+10FFFF <noncharacter> $url
@@ -451,6 +562,22 @@ print(len(found), *wrong, sep="\n")
 sys.exit(bool(wrong) or len(found) != 113)
 PYTHON
 
+# So is each that a port can have or that ends one, in place of a scheme's colon.
+python3 - "$room/list" <<'PYTHON'
+import sys
+open(sys.argv[1], "w", encoding="utf-8").write("".join(f"http{point}//e.com\n" for point in "0123456789?#@"))
+PYTHON
+"$program" lint --quiet --format json "$room/list" >"$room/out" 2>"$room/err"
+ends_with 1 $? '' "code points in place of a scheme's colon"
+python3 - "$room/out" >"$room/wrong" <<'PYTHON' || fail "code points in place of a scheme's colon: $(cat "$room/wrong")"
+import json, sys, unicodedata
+found = [json.loads(line) for line in open(sys.argv[1], encoding="utf-8")]
+said = "there is no scheme and no base; U+{:04X} {} is in place of a colon"
+wrong = [it for it in found if it["message"] != said.format(ord(it["text"][4]), unicodedata.name(it["text"][4]))]
+print(len(found), *wrong, sep="\n")
+sys.exit(bool(wrong) or len(found) != 13)
+PYTHON
+
 # What is said of each of several violations: credentials end with their \`@\`, and an address without brackets is one in each.
 printf '%s\n' 'foo://^@^/' 'http://::1/ ' >"$room/each"
 credentials='a URL string has no credentials: no user name, password or @ before its host'
@@ -462,6 +589,12 @@ each:2:8: error: $bare [host-missing]
 each:2:9: error: $bare [port-digit]
 each:2:12: error: U+0020 SPACE $url [code-point]
 " 'urlcheck: 2 lines, 2 refused\n' lint --all each
+
+# A path that only the parser's profile accepts, since it reads this host decoded.
+printf '%s\n' 'http://a%2Db//x' >"$room/each"
+expect 1 "each:1:8: error: U+0025 PERCENT SIGN is not allowed in a domain [host-domain]
+each:1:14: error: the path begins with //; write one slash, or use --profile parser [first-segment-empty]
+" 'urlcheck: 1 line, 1 refused\n' lint --all each
 
 # A code point of which nothing is seen before a link, only by its number; a private one is seen.
 for point in 00A0 00AD 1680 180E 2000 200A 200B 200D 202F 205F 2060 206F 3000 FFF9 FFFB E0001 E007F; do
@@ -505,9 +638,14 @@ ab:\x
 x:y z
 foo:///C|/x
 magnet:?xt=urn:btih:ab&dn=a b
+https://h/a b c
+https://h/?q=node.js a b
+https://h/?xt=a b
+https://h/x%G
+https://h/@@X b
 ROWS
-# Not offered: templates, paths of Windows, two schemes, a link after a space, addresses that aren't in the text, paths by rules of a
-# scheme, topics of magnet links, paths kept by a segment `.`, drive letters, hosts in place of a scheme, misspelled schemes.
+# Not offered: templates, paths of Windows, two schemes, a link or text after a space, addresses that aren't in the text, paths by rules
+# of a scheme, topics of magnet links, paths kept by a segment `.`, drive letters, hosts in place of a scheme, misspelled schemes.
 offers False <<'ROWS'
 https://h/{id}
 https://h/%(id)s
@@ -522,6 +660,7 @@ C:\x
 https://http//x y/
 https://a/ https://b/
 https://a/ www.b.example/
+https://shop.example/ and more
 https://192.168.010.1/
 https://192.168.1/
 http://1/
@@ -539,6 +678,8 @@ view-source:https://a b/
 https://h/%u00e9
 https://h/Caf%C3%A
 https://h/%D0%9F%D0%B
+http://0x7f.1:8080/a b
+MAILTO:a b@h
 urn:isbn: 0451450523
 magnet:?xt=urn:btih:a b
 https://h//a
@@ -566,4 +707,4 @@ host-code-point|foo://a@@^b?\x40|U+005E CIRCUMFLEX ACCENT is not allowed in a ho
 port-digit|http://h:8@@x#\x40|U+0078 LATIN SMALL LETTER X is not allowed in a port
 ROWS
 
-all_cases 397
+all_cases 524

@@ -1,4 +1,5 @@
--- Which names are explained, and by which text. The words are for people: of a rule's section and example no clause says them.
+-- Which names are explained, and by which text. The words are for people: of a rule's section and example no clause
+-- says them.
 use Rattle.std.specs.Prelude.{◌≡◌, ℕ, ◌++◌, Bool, true, false, if◌then◌else◌, List, [], Option, Some, None, String, codes}
 use Rattle.std.specs.Prelude.{◌==◌, decimal, filter_map, find, is_some, length, map, option_map, string_bytes}
 use Rattle.std.specs.Option.{option_copied, option_or}
@@ -12,13 +13,13 @@ use Rattle.uv_sentences.specs.declared.line_violation.LineViolation.{LineViolati
 use Rattle.uv_sentences.specs.declared.line_violation.LineViolation.TheVariants.{Refused}
 use Rattle.uv_sentences.specs.declared.rules.explanation.Explanation.{Explanation}
 use Rattle.uv_sentences.specs.LineViolation.{named_violation, violation_help, violation_name, violation_sentence}
-use Rattle.uv_sentences.specs.Rules.Explanation.{rule_asks, rule_place, rule_uri}
+use Rattle.uv_sentences.specs.Rules.Explanation.{rule_place, rule_uri}
 use Rattle.uv_arguments.specs.declared.jobs.Told.{Told}
 use Rattle.uv_arguments.specs.declared.jobs.Told.TheVariants as told
 use Rattle.uv_messages.specs.declared.explanations.Topic.{Topic}
 use Rattle.uv_messages.specs.declared.explanations.Topic.TheVariants.{Line, Empty, NoLink}
 use Rattle.uv_messages.specs.declared.explanations.TheConstants.{EMPTY, NO_LINK}
-use Rattle.uv_messages.specs.CheckText.{line, line_of, refused_text}
+use Rattle.uv_messages.specs.CheckText.{line, line_of}
 
 -- ---- names
 
@@ -67,34 +68,58 @@ each_rule = map rule_topic rules_in_order
 abbrev pub topics_of : List (String Global) → List Topic
 topics_of names = if length names == 0 then each_rule else topics_named names
 
--- ---- what is said of a name
+-- ---- the explanation of a name
 
--- what a violation is called, what is wrong, and what is required
-abbrev pub violation_head : LineViolation → List ℕ
-violation_head violation =
-    (line (codes "rule ") (violation_name violation) ++ line (codes "means ") (violation_sentence violation))
-    ++ line (codes "asks ") (violation_help violation)
+-- a space in place of a line feed
+abbrev pub with_space : ℕ → ℕ
+with_space byte = if byte == 10 then 32 else byte
 
--- the section of a rule, a text that is refused by it, against a base if there is one, and what may have been meant
-abbrev pub example_text : Explanation → Refusal → List ℕ
-example_text explanation refusal =
-    (((line (codes "section ") explanation.section.now ++ line_of (codes "base ") (option_copied explanation.base))
-    ++ line (codes "text ") explanation.wrong.now) ++ refused_text refusal)
-    ++ line (codes "meant ") explanation.mended.now
+-- a text with a space in place of each line feed
+abbrev pub on_one_line : List ℕ → List ℕ
+on_one_line text = map with_space text
 
--- the text explains the rule of a refusal, and has its example, perhaps with what is written in its place
-pub record IsExample (refusal : Refusal) (text : List ℕ) : Type 0 where
-  pub explanation : Explanation
-  pub asks : explanation.asks.now ≡ rule_asks refusal.rule
-  pub mended : Option (List ℕ)
+-- the text begins with what a violation is called and what is wrong, and says what is required, in some lines
+pub record IsHead (violation : LineViolation) (text : List ℕ) : Type 0 where
+  pub lines : List ℕ
+  pub asks : on_one_line lines ≡ on_one_line (violation_help violation)
   pub whole :
-      text ≡ (violation_head (Refused refusal) ++ example_text explanation refusal)
-      ++ line_of (codes "mended ") mended
+      text ≡ (violation_name violation ++ line (codes ": ") (violation_sentence violation)) ++ line (codes "\n") lines
+
+-- the place of an example
+unfoldable pub place_text : ℕ → List ℕ
+place_text place = codes "\nWrong, at place " ++ (decimal place ++ codes ":\n")
+
+-- a text that is refused at a place, what may have been meant, and the base of both, if there is one
+abbrev pub example_text : Explanation → ℕ → List ℕ
+example_text explanation place =
+    ((place_text place ++ line (codes "\n    ") explanation.wrong.now)
+    ++ line (codes "\nWrite instead:\n\n    ") explanation.mended.now)
+    ++ line_of (codes "\nThe base of both: ") (option_copied explanation.base)
+
+-- the section of a rule, and its address
+abbrev pub source_text : Explanation → List ℕ
+source_text explanation =
+    line (codes "\nURL Standard, ") explanation.section.now ++ line [] explanation.address.now
+
+-- the text explains the rule of a refusal: it begins with its name and sentence, has what it asks, a reason and an
+-- example, perhaps with the same URL and a profile, and ends with its address
+pub record IsExplanation (refusal : Refusal) (text : List ℕ) : Type 0 where
+  pub explanation : Explanation
+  pub address : explanation.address.now ≡ rule_uri refusal.rule
+  pub head : List ℕ
+  pub is_head : IsHead (Refused refusal) head
+  pub reason : List ℕ
+  pub same : Option (List ℕ)
+  pub profile : Option (List ℕ)
+  pub whole :
+      text ≡ ((((head ++ line (codes "\n") reason) ++ example_text explanation refusal.place)
+      ++ line_of (codes "\nThe same URL, written validly: ") same)
+      ++ line_of (codes "\nAccepted under --profile ") profile) ++ source_text explanation
 
 -- the text explains it, or has the address of the rule's section in a line
 abbrev pub IsTold : Told → Topic → List ℕ → Type 0
-IsTold told.Explanation (Line (Refused refusal)) text = IsExample refusal text
-IsTold told.Explanation (Line violation) text = text ≡ violation_head violation
+IsTold told.Explanation (Line (Refused refusal)) text = IsExplanation refusal text
+IsTold told.Explanation (Line violation) text = IsHead violation text
 IsTold told.Explanation Empty text = text ≡ EMPTY.now
 IsTold told.Explanation NoLink text = text ≡ NO_LINK.now
 IsTold told.Address (Line (Refused refusal)) text = text ≡ line [] (rule_uri refusal.rule)
@@ -104,14 +129,14 @@ IsTold told.Address _ text = text ≡ []
 abbrev pub Tells : Told → Topic → String Global → Type 0
 Tells told topic text = IsTold told topic (string_bytes text)
 
--- ---- what is said of several
+-- ---- the explanation of several
 
 -- what is between two explanations, or two addresses
 abbrev pub between : Told → List ℕ
-between told.Explanation = codes "\n"
+between told.Explanation = codes "\n\n"
 between told.Address = []
 
--- the text has what is said of each, in their order
+-- the text has the explanation of each, in their order
 pub record TellsAll (told : Told) (topics : List Topic) (text : List ℕ) : Type 0 where
   pub texts : List (String Global)
   pub each : AllZip (Tells told) topics texts

@@ -1,13 +1,15 @@
-//! Explanations: for some rules or each, what they require, their sections of the URL Standard, and an example; or the
-//! addresses of these sections.
+//! Explanations: for some rules or each, what they require and why, an example, and their sections of the URL Standard;
+//! or the addresses of these sections.
 ghost use Rattle.std.specs.Prelude.{◌≡◌, IfOk, IfSome, find, is_some, string_bytes};
 ghost use Rattle.std.specs.Str.{str_to_ascii_lowercase};
 ghost use Rattle.uv_arguments.specs.declared.jobs.Told.TheVariants as told;
-ghost use Rattle.uv_messages.specs.Explanations.{Answers, IsExample, Tells, TellsAll, are_explained, between, each_rule};
-ghost use Rattle.uv_messages.specs.Explanations.{example_text, has_number, rule_topic, topic_named, topics_named};
-ghost use Rattle.uv_messages.specs.Explanations.{violation_head};
+ghost use Rattle.uv_messages.specs.Explanations.{Answers, IsExplanation, IsHead, Tells, TellsAll, are_explained};
+ghost use Rattle.uv_messages.specs.Explanations.{between, each_rule, example_text, has_number, rule_topic};
+ghost use Rattle.uv_messages.specs.Explanations.{source_text, topic_named, topics_named};
 
-use crate::report::{push_line, push_present, refused_line};
+use crate::reasons::reason;
+use crate::report::{push_line, push_present};
+use crate::wrapping::wrapped;
 use itoa::Buffer;
 use std::alloc::{AllocError, Global};
 use uv_arguments::Told;
@@ -25,21 +27,24 @@ enum Topic {
     NoLink,
 }
 
-// The rules that a link of a document can violate besides those of URL strings.
-const EMPTY: &str = "rule empty
-means this link is empty, which its format forbids here
-asks A link of an image, a script, a frame, a form's address or a link element isn't empty.
+// The rules that a link of a document can violate besides the rules of URL strings.
+const EMPTY: &str = "empty: this link is empty, which its format forbids here
+
+A link of an image, a script, a frame, a form's address or a link element isn't
+empty.
 ";
 
 // The explanation of `no-link`.
-const NO_LINK: &str = "rule no-link
-means Markdown reads this as text, because its address has a space: write %20
-asks A destination of Markdown has no space, unless < and > enclose it: it is percent-encoded as %20.
+const NO_LINK: &str =
+    "no-link: Markdown reads this as text, because its address has a space: write %20
+
+A destination of Markdown has no space, unless < and > enclose it: it is
+percent-encoded as %20.
 ";
 
-/// What is written about the rules with these names, or about every rule: what they require, where the Standard says
-/// so, and an example of each; or the addresses of their sections of the URL Standard, if they have one. It is `None`
-/// if one of the names has no explanation.
+/// What is written about the rules with these names, or about every rule: what they require and why, an example of
+/// each, and where the Standard says so; or the addresses of their sections of the URL Standard, if they have one. It is
+/// `None` if one of the names has no explanation.
 pub fn explained(alloc: Global, names: &[String], told: Told) -> Result<Option<String>, AllocError>
     ensures { IfOk result (Answers names.now told) }
 {
@@ -54,7 +59,7 @@ pub fn explained(alloc: Global, names: &[String], told: Told) -> Result<Option<S
     Ok(Some(told_of(alloc, topics.as_slice(), told)?))
 }
 
-// What is said about these topics, in their order.
+// The explanations of these topics, in their order.
 fn told_of(alloc: Global, topics: &[Topic], told: Told) -> Result<String, AllocError>
     ensures { IfOk result (λ text. TellsAll told topics.now (string_bytes text)) }
 {
@@ -65,12 +70,12 @@ fn told_of(alloc: Global, topics: &[Topic], told: Told) -> Result<String, AllocE
     texts.as_slice().join(alloc, between(told))
 }
 
-// What comes between what is said about two topics.
+// The text between the explanations of two topics.
 fn between(told: Told) -> &'static str
     ensures { result.now ≡ between told }
 {
     match told {
-        Told::Explanation => "\n",
+        Told::Explanation => "\n\n",
         Told::Address => "",
     }
 }
@@ -163,7 +168,7 @@ fn example_of(rule: Rule) -> Topic
     Topic::Line(LineViolation::Refused(Refusal { place, rule }))
 }
 
-// What is said about a topic.
+// The explanation of a topic.
 fn text_of(alloc: Global, topic: Topic, told: Told) -> Result<String, AllocError>
     ensures { IfOk result (Tells told topic) }
 {
@@ -198,36 +203,55 @@ fn explanation(alloc: Global, topic: Topic) -> Result<String, AllocError>
 
 // What a violation is called, what is wrong, and what is required.
 fn head(alloc: Global, violation: LineViolation) -> Result<String, AllocError>
-    ensures { IfOk result (λ text. string_bytes text ≡ violation_head violation) }
+    ensures { IfOk result (λ text. IsHead violation (string_bytes text)) }
 {
-    let mut text = String::new(alloc);
-    push_line(&mut text, "rule ", violation.name())?;
-    push_line(&mut text, "means ", violation.sentence())?;
-    push_line(&mut text, "asks ", violation.help())?;
+    let mut text = violation.name().to_string(alloc)?;
+    push_line(&mut text, ": ", violation.sentence())?;
+    push_line(&mut text, "\n", wrapped(alloc, violation.help())?.as_str())?;
     Ok(text)
 }
 
-// The same of a rule, with its section, its example, and the example mended, if that is different from what was meant.
+// The same of a rule, with the reason for it, its example, and last its section.
 fn rule_explained(alloc: Global, refusal: Refusal) -> Result<String, AllocError>
-    ensures { IfOk result (λ text. IsExample refusal (string_bytes text)) }
+    ensures { IfOk result (λ text. IsExplanation refusal (string_bytes text)) }
 {
     let mut text = head(alloc, LineViolation::Refused(refusal))?;
     let explanation = explain(refusal.rule);
-    text.push_str(example(alloc, &explanation, refusal)?.as_str())?;
-    push_present(&mut text, "mended ", mended_otherwise(refusal.rule))?;
+    push_line(&mut text, "\n", reason(refusal.rule))?;
+    text.push_str(example(alloc, &explanation, refusal.place)?.as_str())?;
+    push_present(
+        &mut text,
+        "\nThe same URL, written validly: ",
+        mended_otherwise(refusal.rule),
+    )?;
+    push_present(
+        &mut text,
+        "\nAccepted under --profile ",
+        accepted_under(refusal.rule),
+    )?;
+    text.push_str(source(alloc, &explanation)?.as_str())?;
     Ok(text)
 }
 
-// A rule's section, and a text that the rule refuses, with what its author may have meant.
-fn example(alloc: Global, explanation: &Explanation, refusal: Refusal) -> Result<String, AllocError>
-    ensures { IfOk result (λ text. string_bytes text ≡ example_text explanation.now refusal) }
+// A text that is refused at a place, what its author may have meant, and the base of both.
+#[tactic(auto, unfolding(crate::specs::Explanations::place_text))]
+fn example(alloc: Global, explanation: &Explanation, place: usize) -> Result<String, AllocError>
+    ensures { IfOk result (λ text. string_bytes text ≡ example_text explanation.now place) }
+{
+    let mut text = format!(in alloc; "\nWrong, at place {place}:\n")?;
+    push_line(&mut text, "\n    ", explanation.wrong)?;
+    push_line(&mut text, "\nWrite instead:\n\n    ", explanation.mended)?;
+    push_present(&mut text, "\nThe base of both: ", explanation.base)?;
+    Ok(text)
+}
+
+// A rule's section of the URL Standard, and its address.
+fn source(alloc: Global, explanation: &Explanation) -> Result<String, AllocError>
+    ensures { IfOk result (λ text. string_bytes text ≡ source_text explanation.now) }
 {
     let mut text = String::new(alloc);
-    push_line(&mut text, "section ", explanation.section)?;
-    push_present(&mut text, "base ", explanation.base)?;
-    push_line(&mut text, "text ", explanation.wrong)?;
-    text.push_str(refused_line(alloc, refusal)?.as_str())?;
-    push_line(&mut text, "meant ", explanation.mended)?;
+    push_line(&mut text, "\nURL Standard, ", explanation.section)?;
+    push_line(&mut text, "", explanation.address)?;
     Ok(text)
 }
 
@@ -236,6 +260,15 @@ fn mended_otherwise(rule: Rule) -> Option<&'static str> {
     match rule {
         Rule::FirstSegmentEmpty => Some("https://example.com/.//a"),
         Rule::DriveAfterHost => Some("file://h/./C:/x"),
+        _ => None,
+    }
+}
+
+// The first profile that accepts the text that a rule refuses, if one does.
+fn accepted_under(rule: Rule) -> Option<&'static str> {
+    match rule {
+        Rule::FirstSegmentEmpty => Some("wide"),
+        Rule::HostDomain | Rule::DriveAfterHost => Some("parser"),
         _ => None,
     }
 }

@@ -1,10 +1,11 @@
 //! Options of other tools, by their names, and what to write here instead.
 
-// What is said of an option on how links are fetched.
+// The message about an option on how links are fetched.
 const NO_FETCH: &str = "no command fetches a link: only how it is written is checked";
 
-// The options of other tools that mean the same, and what to write here in place of each.
-const HABITS: [(&str, &str); 27] = [
+// The options of other tools that mean the same, and what to write here in place of each. `RULE` stands for the rule
+// that is their value.
+const HABITS: [(&str, &str); 28] = [
     (
         "--fix --fix-only --unsafe-fixes --write -w",
         "urlcheck mend --in-place FILE mends the links of a list",
@@ -14,8 +15,12 @@ const HABITS: [(&str, &str); 27] = [
         "urlcheck mend -q <FILE | diff FILE - shows what mend changes",
     ),
     (
-        "--select --ignore --extend-select --extend-ignore --rule --disable",
-        "lint reports every rule: grep -v '\\[percent\\]$' leaves out the lines of one",
+        "--ignore --extend-ignore --disable",
+        "lint reports every rule: grep -v '\\[RULE\\]$' leaves one out; urlcheck-documents has --ignore",
+    ),
+    (
+        "--select --extend-select --rule",
+        "lint reports every rule: grep '\\[RULE\\]$' leaves one; urlcheck-documents has --select",
     ),
     (
         "--exclude --include --skip --ignore-pattern --ignore-url --ignore-urls",
@@ -78,7 +83,7 @@ const HABITS: [(&str, &str); 27] = [
     ),
     (
         "--check",
-        "check, lint and links check how links are written, and fetch none",
+        "leave it out: check, lint and links change no file",
     ),
     (
         "--list --type --gfm --git --no-empty --baseline --write-baseline",

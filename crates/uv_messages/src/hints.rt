@@ -41,7 +41,7 @@ pub enum Hint {
 }
 
 impl Hint {
-    /// What is said.
+    /// The message.
     pub fn text(self) -> &'static str {
         match self {
             Hint::NoCommand => "check TEXT checks one text, and lint FILE the lines of a file",

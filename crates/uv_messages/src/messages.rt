@@ -1,4 +1,4 @@
-//! What is said on standard error before the last line.
+//! The message on standard error before the last line.
 ghost use Rattle.std.specs.Prelude.{◌≡◌, IfOk, [], string_bytes};
 ghost use Rattle.uv_messages.specs.Messages.{IsSaid, message_line};
 

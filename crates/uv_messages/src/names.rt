@@ -2,10 +2,6 @@
 
 use std::alloc::{AllocError, Global};
 use strsim::osa_distance;
-use uv_arguments::arguments::without_hyphen;
-
-/// The names of the commands, in the order of the help.
-pub(crate) const COMMANDS: [&str; 6] = ["check", "lint", "links", "mend", "vectors", "explain"];
 
 /// The names that begin with a word, in any case; none for an empty word.
 pub(crate) fn longer_names<'n>(
@@ -24,8 +20,7 @@ pub(crate) fn longer_names<'n>(
 }
 
 /// The nearest of the names, if at most a third of the word's letters, or one letter of a shorter word, has to be
-/// changed, removed, added or swapped with the next one, ignoring case. Hyphens at the start of an option aren't
-/// counted as letters.
+/// changed, removed, added or swapped with the next one, ignoring case.
 pub(crate) fn nearest<'n>(
     alloc: Global,
     word: &str,
@@ -33,7 +28,7 @@ pub(crate) fn nearest<'n>(
 ) -> Result<Option<&'n str>, AllocError> {
     let word = word.to_ascii_lowercase(alloc)?;
     let mut near = None;
-    let mut limit = (stem(word.as_str()).len() / 3).max(1) + 1;
+    let mut limit = (word.len() / 3).max(1) + 1;
     for name in names {
         let edits = osa_distance(alloc, word.as_str(), name)?;
         if edits < limit {
@@ -68,19 +63,14 @@ pub(crate) fn meant<'n>(
 }
 
 // Whether a word abbreviates a name: it begins with the same letter, and its further letters are in the name in the
-// same order. Hyphens at the start of an option don't count.
+// same order.
 fn abbreviates(word: &str, name: &str) -> bool {
-    match (stem(word), stem(name)) {
+    match (word.as_bytes(), name.as_bytes()) {
         ([first, rest @ ..], [initial, others @ ..]) => {
             first == initial && is_in_order(rest, others)
         }
         _ => false,
     }
-}
-
-// A word without the one or two hyphens at its start, if it has any.
-fn stem(word: &str) -> &[u8] {
-    without_hyphen(without_hyphen(word)).as_bytes()
 }
 
 // Whether letters are among others in their order.

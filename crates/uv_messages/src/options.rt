@@ -1,69 +1,82 @@
-//! Options that a command doesn't take, and values of options: what is said if one of them is given.
+//! Messages on options that a command doesn't take, and on values of options.
 
 use crate::habits::habit;
 use crate::hints::Hint;
 use crate::names::meant;
 use std::alloc::{AllocError, Global};
 use uv_arguments::arguments::without_hyphen;
-
-// The long names of all options, in the order of the help.
-const NAMES: [&str; 14] = [
-    "--base",
-    "--all",
-    "--profile",
-    "--wide",
-    "--format",
-    "--columns",
-    "--located",
-    "--stdin-name",
-    "--color",
-    "--in-place",
-    "--only",
-    "--all-mended",
-    "--quiet",
-    "--url",
-];
+use uv_arguments::{COMMANDS, OptionRow};
+use uv_model::Rule;
 
 // The longest value that a hint repeats, in bytes.
 const MOST_SHOWN: usize = 64;
 
 /// An option that its command doesn't take.
-#[derive(Clone, Copy)]
-pub(crate) struct RefusedOption<'s, 'w> {
+#[derive(Drop)]
+pub(crate) struct RefusedOption<'w> {
     /// Its name, without a value.
-    name: &'s str,
+    name: String,
     /// The word that it is in.
     word: &'w str,
+    /// The word after that.
+    next: Option<&'w str>,
 }
 
-/// The option because of which these words are refused, according to what `clap` says about them, if there is one.
-/// Words after `--` aren't options.
-pub(crate) fn refused_option<'s, 'w>(
+/// The first option of these words that isn't one of the command, if there is one. Words after `--` aren't options.
+pub(crate) fn refused_option<'w>(
+    alloc: Global,
+    command: &str,
     words: &[&'w str],
-    said: &'s str,
-) -> Option<RefusedOption<'s, 'w>> {
-    let (_, named) = said.split_once("unexpected argument '")?;
-    let (name, _) = named.split_once("' found")?;
-    if !looks_like_option(name) {
-        return None;
-    }
-    for word in words {
+) -> Result<Option<RefusedOption<'w>>, AllocError> {
+    let options = options_of(command);
+    for (at, word) in words.iter().enumerate() {
         if *word == "--" {
-            return None;
+            break;
         }
-        if is_in(name, word) {
-            return Some(RefusedOption { name, word });
+        if let Some(name) = refused_name(alloc, options, word)? {
+            let next = words.get(at.saturating_add(1)).copied();
+            return Ok(Some(RefusedOption { name, word, next }));
         }
     }
-    None
+    Ok(None)
 }
 
-// Whether an option is in a word: by its long name, or as one of the letters after a single hyphen.
-fn is_in(name: &str, word: &str) -> bool {
-    if name.starts_with("--") {
-        return before_value(word) == name;
+// The options of the command with this name.
+fn options_of(command: &str) -> &'static [OptionRow] {
+    match COMMANDS.iter().find(|row| row.name == command) {
+        Some(row) => row.options,
+        None => &[],
     }
-    looks_like_option(word) && !word.starts_with("--") && word.contains(without_hyphen(name))
+}
+
+// The name in a word that none of these options has: a long one, or the first of the letters after a single hyphen.
+fn refused_name(
+    alloc: Global,
+    options: &[OptionRow],
+    word: &str,
+) -> Result<Option<String>, AllocError> {
+    if word.starts_with("--") {
+        let name = before_value(word);
+        return if is_taken(options, name) {
+            Ok(None)
+        } else {
+            Ok(Some(name.to_string(alloc)?))
+        };
+    }
+    if looks_like_option(word) {
+        for letter in without_hyphen(word).chars() {
+            let name = format!(in alloc; "-{letter}")?;
+            if !is_taken(options, name.as_str()) {
+                return Ok(Some(name));
+            }
+        }
+    }
+    Ok(None)
+}
+
+// Whether a name is one of these options, or asks for help, as it does for each command.
+fn is_taken(options: &[OptionRow], name: &str) -> bool {
+    matches!(name, "--help" | "-h") || options.iter().any(|option| option.is_named(name))
 }
 
 /// Whether a word begins like an option, and isn't just `-`.
@@ -86,53 +99,22 @@ fn before_value(word: &str) -> &str {
     }
 }
 
-// The commands that take the option with this name, in the order of the help.
-fn takers(name: &str) -> &'static [&'static str] {
-    match name {
-        "--base" | "--profile" | "--wide" => &["check", "lint", "links", "mend"],
-        "--all" => &["check", "lint"],
-        "--format" | "--columns" | "--located" | "--stdin-name" | "--color" => &["lint"],
-        "--quiet" | "-q" => &["lint", "mend"],
-        "--in-place" | "-i" | "--only" | "--all-mended" => &["mend"],
-        "--url" => &["explain"],
-        _ => &[],
-    }
-}
-
-// Whether the word after the option with this name is its value.
-fn has_value(name: &str) -> bool {
-    matches!(
-        name,
-        "--base" | "--profile" | "--format" | "--columns" | "--stdin-name" | "--color" | "--only"
-    )
-}
-
-// The names of the options that a command takes, in the order of the help.
-fn names_of(alloc: Global, command: &str) -> Result<Vec<&'static str>, AllocError> {
-    let mut names = Vec::new(alloc);
-    for name in &NAMES {
-        if takers(name).contains(&command) {
-            names.push(*name)?;
-        }
-    }
-    Ok(names)
-}
-
 /// The hint at an option that a command doesn't take, if there is one: at `--`, which has to come before a text that
 /// begins with a hyphen but doesn't look like an option; at the commands that take it; or at what may have been meant.
 pub(crate) fn option_line(
     alloc: Global,
     command: &str,
-    option: RefusedOption<'_, '_>,
+    option: &RefusedOption<'_>,
 ) -> Result<Option<String>, AllocError> {
     if takes_texts(command) && !may_be_option(option.word) {
         return Ok(Some(Hint::NoOption.text().to_string(alloc)?));
     }
-    let name = option.name;
+    let name = option.name.as_str();
     if matches!(name, "--version" | "-V") {
         return Ok(Some(Hint::Version.text().to_string(alloc)?));
     }
-    let Some((last, others)) = takers(name).split_last() else {
+    let takers = takers(alloc, name)?;
+    let Some((last, others)) = takers.as_slice().split_last() else {
         return other_option_line(alloc, command, option);
     };
     let others = others.join(alloc, ", ")?;
@@ -151,27 +133,59 @@ fn takes_texts(command: &str) -> bool {
     matches!(command, "check" | "mend")
 }
 
+// The commands that take the option with this name, in the order of the help.
+fn takers(alloc: Global, name: &str) -> Result<Vec<&'static str>, AllocError> {
+    COMMANDS
+        .iter()
+        .filter(|row| row.options.iter().any(|option| option.is_named(name)))
+        .map(|row| row.name)
+        .collect(alloc)
+}
+
 // The hint at an option that no command takes: at what other tools mean by it, or at the option of the command that was
-// likely meant, which may be written with one hyphen.
+// likely meant, which may be written with one hyphen. Before a command, only the program's own may be meant.
 fn other_option_line(
     alloc: Global,
     command: &str,
-    option: RefusedOption<'_, '_>,
+    option: &RefusedOption<'_>,
 ) -> Result<Option<String>, AllocError> {
-    let RefusedOption { name, word } = option;
-    let written = before_value(word);
-    let near = meant(alloc, written, names_of(alloc, command)?.as_slice())?;
-    match (habit(name), near) {
+    let name = option.name.as_str();
+    let written = before_value(option.word);
+    let stem = without_hyphen(without_hyphen(written));
+    let mut names: Vec<&str> = options_of(command)
+        .iter()
+        .map(|row| row.name)
+        .collect(alloc)?;
+    names.push("help")?;
+    let mut taker = command;
+    if looks_like_option(command) {
+        names.push("version")?;
+        taker = "urlcheck";
+    }
+    match (habit(name), meant(alloc, stem, names.as_slice())?) {
         (Some(instead), near) if near.is_none() || written == name => {
+            let instead = instead.replace(alloc, "RULE", rule_given(option))?;
             Ok(Some(format!(in alloc; "there is no option {name}; {instead}")?))
         }
         (_, Some(near)) => {
             let line = format!(in alloc;
-                "{command} has no option {written}; the nearest is {near}"
+                "{taker} has no option {written}; the nearest is --{near}"
             )?;
             Ok(Some(line))
         }
         _ => Ok(None),
+    }
+}
+
+// The name of a rule that is the value of an option, or `RULE` if it isn't one.
+fn rule_given<'w>(option: &RefusedOption<'w>) -> &'w str {
+    let value = match option.word.split_once('=') {
+        Some((_, value)) => Some(value),
+        None => option.next,
+    };
+    match value {
+        Some(value) if Rule::of_name(value).is_some() => value,
+        _ => "RULE",
     }
 }
 
@@ -184,7 +198,7 @@ pub(crate) fn value_line(
     let [.., option, value] = words else {
         return Ok(None);
     };
-    if !has_value(option) {
+    if valued(command, option).is_none() {
         return Ok(None);
     }
     let value = if value.len() > MOST_SHOWN {
@@ -198,4 +212,28 @@ pub(crate) fn value_line(
     };
     let line = format!(in alloc; "{value} is the value of {option}, and {missing}")?;
     Ok(Some(line))
+}
+
+// The option of a command with this name, if it has a value.
+fn valued(command: &str, name: &str) -> Option<&'static OptionRow> {
+    options_of(command)
+        .iter()
+        .find(|option| option.has_value() && option.is_named(name))
+}
+
+/// The hint if the value of an option is missing: what it may be.
+pub(crate) fn values_line(
+    alloc: Global,
+    command: &str,
+    words: &[&str],
+) -> Result<Option<String>, AllocError> {
+    for (at, word) in words.iter().enumerate() {
+        let next = words.get(at.saturating_add(1));
+        let is_followed = matches!(next, Some(next) if !looks_like_option(next));
+        if let (false, Some(option)) = (is_followed, valued(command, word)) {
+            let help = option.help.replace(alloc, "\n", " ")?;
+            return Ok(Some(format!(in alloc; "{word}: {help}")?));
+        }
+    }
+    Ok(None)
 }

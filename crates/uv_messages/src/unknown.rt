@@ -12,18 +12,18 @@ use uv_sentences::{LineViolation, LocatedFault};
 // The kinds in the order of docs and help.
 const KINDS: [MendKind; 3] = [MendKind::Same, MendKind::Escaped, MendKind::Changed];
 
-/// What is said about a name that none of these formats has.
+/// The message about a name that none of these formats has.
 pub fn unknown_format(alloc: Global, names: &[&str], name: &str) -> Result<Message, AllocError> {
     unknown(alloc, "format", &[name], names)
 }
 
-/// What is said about a name that no kind has.
+/// The message about a name that no kind has.
 pub fn unknown_kind(alloc: Global, name: &str) -> Result<Message, AllocError> {
     let names: Vec<&str> = KINDS.iter().map(|kind| kind.name()).collect(alloc)?;
     unknown(alloc, "kind", &[name], names.as_slice())
 }
 
-/// What is said about a name that no profile has.
+/// The message about a name that no profile has.
 pub fn unknown_profile(alloc: Global, name: &str) -> Result<Message, AllocError> {
     let profiles = Profile::in_order();
     let names: Vec<&str> = profiles
@@ -33,19 +33,19 @@ pub fn unknown_profile(alloc: Global, name: &str) -> Result<Message, AllocError>
     unknown(alloc, "profile", &[name], names.as_slice())
 }
 
-/// What is said about a name that none of these units of columns has.
+/// The message about a name that none of these units of columns has.
 pub fn unknown_unit(alloc: Global, names: &[&str], name: &str) -> Result<Message, AllocError> {
     unknown(alloc, "column unit", &[name], names)
 }
 
-/// What is said about a name that doesn't say when there are colours.
+/// The message about a name that doesn't say when there are colours.
 pub fn unknown_colours(alloc: Global, name: &str) -> Result<Message, AllocError> {
     let choices = Colours::in_order();
     let names: Vec<&str> = choices.iter().map(|colours| colours.name()).collect(alloc)?;
     unknown(alloc, "colour choice", &[name], names.as_slice())
 }
 
-/// What is said about a unit of columns that the format doesn't take, which takes those with these names.
+/// The message about a unit of columns that the format doesn't take, which takes those with these names.
 pub fn refused_unit(
     alloc: Global,
     format: &str,
@@ -60,8 +60,8 @@ pub fn refused_unit(
     Ok(said)
 }
 
-/// What is said if these names are to be explained, and some of them are neither those of rules nor of what else can be
-/// wrong with a line.
+/// The message if these names are to be explained, and some of them belong neither to a rule nor to anything else that
+/// can be wrong with a line.
 pub fn unknown_rules(alloc: Global, rules: &[String]) -> Result<Message, AllocError> {
     let mut none: Vec<&str> = Vec::new(alloc);
     for rule in rules {
@@ -80,7 +80,7 @@ pub fn unknown_rules(alloc: Global, rules: &[String]) -> Result<Message, AllocEr
     unknown(alloc, "rule", none.as_slice(), names.as_slice())
 }
 
-// What is said about names that don't exist, by what they should name: each with the nearest name, or if none is near
+// The message about names that don't exist, by what they should name: each with the nearest name, or if none is near
 // with those that begin like it; and then all the names that there are.
 fn unknown(
     alloc: Global,

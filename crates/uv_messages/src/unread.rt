@@ -4,7 +4,7 @@ use crate::messages::Message;
 use std::alloc::{AllocError, Global};
 use std::io::ErrorKind;
 
-/// What is said about a file that wasn't read, by the kind of the library's error, if it is known.
+/// The message about a file that wasn't read, by the kind of the library's error, if it is known.
 pub fn unread(alloc: Global, file: &str, why: Option<ErrorKind>) -> Result<Message, AllocError> {
     let name = name_of(file);
     let reason = reason_of(why);
@@ -35,7 +35,7 @@ fn reason_of(why: Option<ErrorKind>) -> &'static str {
     }
 }
 
-/// What is said about a file that stays as it was because it can't be written, by the kind of the error, if it is
+/// The message about a file that stays as it was because it can't be written, by the kind of the error, if it is
 /// known.
 pub fn unmended(alloc: Global, file: &str, why: Option<ErrorKind>) -> Result<Message, AllocError> {
     let name = name_of(file);
@@ -54,7 +54,7 @@ pub fn unmended(alloc: Global, file: &str, why: Option<ErrorKind>) -> Result<Mes
     )
 }
 
-/// What is said about a new file that has no other's name yet, though this run didn't make it.
+/// The message about a new file that has no other's name yet, though this run didn't make it.
 pub fn left_behind(alloc: Global, file: &str) -> Result<Message, AllocError> {
     Message::of(
         alloc,
@@ -64,7 +64,7 @@ pub fn left_behind(alloc: Global, file: &str) -> Result<Message, AllocError> {
     )
 }
 
-/// What is said about an output that can't be written, by the kind of the error, if it is known.
+/// The message about an output that can't be written, by the kind of the error, if it is known.
 pub fn unwritten(alloc: Global, why: Option<ErrorKind>) -> Result<Message, AllocError> {
     Message::of(alloc, unwritten_line(alloc, why)?.as_str())
 }

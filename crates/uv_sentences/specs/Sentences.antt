@@ -1,3 +1,3 @@
--- What is said of a text, and which place that names.
+-- The sentence on a text, and which place that names.
 pub mod Message
 pub mod Named

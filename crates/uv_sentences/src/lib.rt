@@ -1,4 +1,4 @@
-//! What is said about a refused text: the sentence on it, as a terminal may show it, with what its author may have
+//! Messages on a refused text: the sentence on it, as a terminal may show it, with what its author may have
 //! meant; and what each rule requires, with an example.
 #![tactic(auto)]
 
@@ -16,7 +16,7 @@ pub use located_fault::LocatedFault;
 pub use places::seen_text::SeenText;
 pub use places::window::{carried, cut_out};
 pub use rules::explanation::{Explanation, explain};
-pub use sentences::intention::is_offered;
+pub use sentences::intention::{is_named, is_offered};
 pub use sentences::message::message;
 pub use sentences::named::named_place;
 pub use sentences::wording::{Checked, Wording};

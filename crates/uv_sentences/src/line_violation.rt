@@ -102,7 +102,8 @@ impl LineViolation {
         }
     }
 
-    /// The address of what the URL Standard says about it: that of the rule's section, and nothing for a rule of lines.
+    /// The address of what the URL Standard says about it, which is the rule's section, and nothing for a rule of
+    /// lines.
     pub fn address(self) -> &'static str
         ensures { result.now ≡ violation_address self }
     {
@@ -112,7 +113,7 @@ impl LineViolation {
         }
     }
 
-    /// Where its rule is in the list of all that can be wrong, from 0: the three that aren't refusals come first.
+    /// The index of its rule in the list of all that can be wrong, from 0: the three that aren't refusals come first.
     pub(crate) fn index(self) -> u64
         ensures { result ≡ violation_index self }
     {
@@ -150,7 +151,7 @@ impl LineViolation {
     }
 }
 
-/// Where the rule with this name is in the list of all that can be wrong, from 0, if it is in it.
+/// The index of the rule with this name in the list of all that can be wrong, from 0, if it is there.
 pub fn rule_index(name: &str) -> Option<u64>
     ensures { result ≡ spec.rule_index name.now }
 {
@@ -160,7 +161,7 @@ pub fn rule_index(name: &str) -> Option<u64>
     }
 }
 
-// Where the rule of valid URL strings with this name is in that list, from 0, if there is one.
+// The index in that list of the rule of valid URL strings with this name, from 0, if there is one.
 fn index_of_rule(name: &str) -> Option<u64>
     ensures { result ≡ option_map (λ rule. rule_number rule + 2) (named_rule name.now) }
 {

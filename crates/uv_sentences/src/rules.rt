@@ -1,2 +1,2 @@
-//! What is said about each rule: what it requires, with an example.
+//! The explanation of each rule: what it requires, with an example.
 pub(crate) mod explanation;

@@ -1,4 +1,4 @@
-//! What is said about a line: the sentence is in `message`, and the other files make parts of it. `named` finds what a
+//! The sentence on a line: `message` puts it together, and the other files make parts of it. `named` finds what a
 //! sentence names, and `intention` says whether a text is offered in place of a line.
 pub(crate) mod authority;
 pub(crate) mod code_point;

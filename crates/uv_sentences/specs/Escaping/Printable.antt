@@ -7,6 +7,6 @@ use Rattle.std.specs.List.{list_all}
 abbrev pub is_printable : ℕ → Bool
 is_printable byte = is_in_range 0x20 0x7E byte
 
--- a text of such bytes alone: one line, which a terminal shows as it is
+-- a text of only such bytes: one line, which a terminal shows as it is
 abbrev pub IsLine : List ℕ → Type 0
 IsLine text = list_all is_printable text ≡ true

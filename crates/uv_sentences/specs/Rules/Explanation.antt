@@ -1,5 +1,5 @@
--- What each rule of valid URL strings asks (URL Standard, sections 3.4 and 4.3), where it is, and at which place its example is
--- refused. The words of the example, and what the section is called, are for people: no clause says them.
+-- What each rule of valid URL strings asks (URL Standard, sections 3.4 and 4.3), where it is, and at which place its
+-- example is refused. The words of the example, and what the section is called, are for people: no clause says them.
 use Rattle.std.specs.Prelude.{ℕ, List, codes}
 use Rattle.uv_model.specs.declared.rule.Rule.{Rule}
 use Rattle.uv_model.specs.declared.rule.Rule.TheVariants.{NoScheme, OpaqueBase, TwoSlashes, HostMissing, HostDomain}

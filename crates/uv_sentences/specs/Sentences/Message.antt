@@ -1,4 +1,4 @@
--- What is said of a line: no clause says its words, which are for people.
+-- The message on a line: no clause says its words, which are for people.
 use Rattle.std.specs.Prelude.{◌≡◌, ℕ, List}
 use Rattle.uv_sentences.specs.Escaping.Escapes.{shown_text}
 

@@ -15,8 +15,8 @@ use std::alloc::{AllocError, Global};
 pub enum Escapes {
     /// On a terminal: controls except the tab, and code points that turn the direction of a text or end a line.
     Shown,
-    /// In a URL that is copied from a terminal: those of these that a URL may have are percent-encoded, so that it is the
-    /// same URL.
+    /// In a URL that is copied from a terminal: what a URL may have of this is percent-encoded, so that it is the same
+    /// URL.
     Copied,
     /// In the message of a workflow command.
     Message,
@@ -38,8 +38,9 @@ pub fn push_shown(text: &mut String, source: &str) -> Result<(), AllocError>
     }
 }
 
-/// Pushes a valid URL string as a terminal may show it, such that what is copied from there is the same URL: code points
-/// that end a line or turn the direction of a text are percent-encoded. If an allocation fails, a prefix of it was pushed.
+/// Pushes a valid URL string as a terminal may show it, such that what is copied from there is the same URL: code
+/// points that end a line or turn the direction of a text are percent-encoded. If an allocation fails, a prefix of it
+/// was pushed.
 pub fn push_copied(text: &mut String, source: &str) -> Result<(), AllocError>
     ensures { OnOk result (string_bytes text.new ≡ string_bytes text.old ++ escaped Copied source.now) }
 {

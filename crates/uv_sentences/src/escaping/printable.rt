@@ -1,4 +1,4 @@
-//! Texts of printable ASCII alone, which are shown as they are.
+//! Texts of only printable ASCII, which are shown as they are.
 ghost use Rattle.std.specs.Prelude.{◌≡◌, ◌&&◌, ◌==◌};
 ghost use Rattle.std.specs.List.{list_all};
 ghost use Rattle.uv_sentences.specs.Escaping.Printable.{is_printable};

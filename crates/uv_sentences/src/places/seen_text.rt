@@ -43,7 +43,7 @@ struct Known {
 pub struct SeenText<'t> {
     text: &'t str,
     last: Spot<'t>,
-    // Where what is shown of a long text begins, for the last place.
+    // The beginning of what is shown of a long text, for the last place.
     window: Spot<'t>,
     part: Option<Part>,
     // What the text shows of its author's intention, if that was looked for.

@@ -8,8 +8,8 @@ use crate::sentences::pieces::{before, has_piece};
 use std::alloc::{AllocError, Global};
 use uv_model::{Profile, Rule, is_domain_mark, is_drive_letter};
 
-/// What is said about the host that begins at a place of a line: that it is a drive letter, which code point may not be
-/// in it, or what is wrong with one of its labels, or else the rule's sentence.
+/// The sentence on the host that begins at a place of a line: that it is a drive letter, which code point may not be in
+/// it, what is wrong with one of its labels, or otherwise the rule's sentence.
 pub(crate) fn domain_sentence(
     alloc: Global,
     profile: Profile,
@@ -32,14 +32,14 @@ pub(crate) fn domain_sentence(
     }
 }
 
-// What is said about a code point that isn't allowed in a domain.
+// The sentence on a code point that isn't allowed in a domain.
 fn foreign_sentence(alloc: Global, c: char, advice: &str) -> Result<String, AllocError> {
     let name = point_name(alloc, c)?;
     let name = name.as_str();
     format!(in alloc; "{name} is not allowed in a domain{advice}")
 }
 
-// What is said about a code point that isn't ASCII, but is read as one that isn't allowed in a domain.
+// The sentence on a code point that isn't ASCII, but is read as one that isn't allowed in a domain.
 fn wide_sentence(alloc: Global, c: char) -> Result<String, AllocError> {
     let name = point_name(alloc, c)?;
     let name = name.as_str();
@@ -71,7 +71,7 @@ fn is_after_link(line: &str, host: &str, c: char) -> bool {
     }
 }
 
-// What is said about a host whose code points are all allowed.
+// The sentence on a host whose code points are all allowed.
 fn labels_sentence(alloc: Global, profile: Profile, host: &str) -> Result<String, AllocError> {
     let name = host.strip_suffix('.').unwrap_or(host);
     if let Some(fault) = label_fault(profile, name) {
@@ -79,6 +79,11 @@ fn labels_sentence(alloc: Global, profile: Profile, host: &str) -> Result<String
     }
     if profile == Profile::Standard && name.is_ascii() && name.len() > 253 {
         return String::from_str(alloc, "this domain has more than 253 code points");
+    }
+    if let Some(c) = name.chars().find(|c| is_joiner(*c)) {
+        let name = point_name(alloc, c)?;
+        let name = name.as_str();
+        return format!(in alloc; "{name}, which nobody sees, is in this domain: leave it out");
     }
     if !name.is_ascii() || has_piece(name, "%") {
         return String::from_str(alloc, Rule::HostDomain.sentence());
@@ -214,6 +219,11 @@ fn is_from_right(c: char) -> bool {
         '\u{66E}'..='\u{66F}' | '\u{671}'..='\u{6D3}' => true,
         _ => false,
     }
+}
+
+// Whether a code point joins letters or parts them, which domains may have only in a few places.
+fn is_joiner(c: char) -> bool {
+    c == '\u{200C}' || c == '\u{200D}'
 }
 
 // Whether a label begins with `xn--` in any case.

@@ -1,5 +1,5 @@
-//! What the author of a refused text likely meant, if that isn't what the text is mended to. It is a judgement, which no
-//! clause fixes: tests/runs/sentences.cases.sh has a row for each sign.
+//! What the author of a refused text likely meant, if that isn't what the text is mended to. It is a judgement, which
+//! no clause fixes: tests/runs/sentences.cases.sh has a row for each sign.
 
 use crate::places::seen_text::SeenText;
 use crate::sentences::authority::{authority_of, before_query};
@@ -29,6 +29,8 @@ pub(crate) enum Intention {
     Misspelled,
     /// A link after something else and a space, as in `https://a/ https://b/`.
     LaterLink,
+    /// A link with text after it, as in `https://a/ and more`.
+    LaterText,
     /// A code point as JavaScript's `escape` writes it: the text has `%u` and a hex digit.
     OldEscape,
     /// An escape of two hex digits, of which one is there, as in `http://h/Caf%C3%A`.
@@ -37,7 +39,7 @@ pub(crate) enum Intention {
 
 // All of them, in the order in which they are looked for: first a text that isn't a link at all, then what the scheme
 // shows, then what comes after it.
-const INTENTIONS: [Intention; 10] = [
+const INTENTIONS: [Intention; 11] = [
     Intention::Markup,
     Intention::Template,
     Intention::WindowsPath,
@@ -46,6 +48,7 @@ const INTENTIONS: [Intention; 10] = [
     Intention::HostAsScheme,
     Intention::Misspelled,
     Intention::LaterLink,
+    Intention::LaterText,
     Intention::OldEscape,
     Intention::CutEscape,
 ];
@@ -62,12 +65,13 @@ impl Intention {
             Intention::HostAsScheme => has_host_as_scheme(text),
             Intention::Misspelled => has_misspelled_scheme(text),
             Intention::LaterLink => marks.has(b' ') && has_later_link(text),
+            Intention::LaterText => marks.has(b' ') && has_later_text(text),
             Intention::OldEscape => marks.has(b'%') && has_old_escape(after(text, '%')),
             Intention::CutEscape => marks.has(b'%') && has_cut_escape(after(text, '%')),
         }
     }
 
-    /// What is said about it, after what is wrong; `None` if the rule says more.
+    /// The note on it, after what is wrong; `None` if the rule says more.
     pub(crate) fn note(self) -> Option<&'static str> {
         match self {
             Intention::Markup => Some("; this looks like HTML: check the links in it"),
@@ -82,6 +86,9 @@ impl Intention {
             }
             Intention::Misspelled => Some("; perhaps http or https is meant"),
             Intention::LaterLink => Some("; a link begins after a space: write it by itself"),
+            Intention::LaterText => {
+                Some("; this looks like text after a link: write the link by itself")
+            }
             Intention::OldEscape => Some("; %u isn't an escape of URLs: write those of UTF-8"),
             Intention::CutEscape => None,
         }
@@ -100,6 +107,15 @@ pub(crate) fn shown_intention(text: &str) -> Option<Intention> {
 /// Whether a mended text is offered in place of a refused one: nothing suggests that something else was meant.
 pub fn is_offered(text: &SeenText<'_>, mended: &str) -> bool {
     text.shown_intention().is_none() && !is_another(text.as_str(), mended)
+}
+
+/// Whether the message on a refused text says what to write in its place: one of two schemes, or the link after a
+/// space. A mended text, which has all of it, would only mislead.
+pub fn is_named(text: &SeenText<'_>) -> bool {
+    matches!(
+        text.shown_intention(),
+        Some(Intention::TwoSchemes | Intention::LaterLink)
+    )
 }
 
 // Whether a mended text means something else than what it was made of: it has another path, which keeps the `//` or the
@@ -147,6 +163,27 @@ fn has_later_link(text: &str) -> bool {
         && (has_piece(text, " http://") || has_piece(text, " https://") || has_piece(text, " www."))
 }
 
+// Whether a link that may well be whole comes before the first space, and at least two words after it. A `/` among
+// them, or a `.` before their end, is more likely one of the link.
+fn has_later_text(text: &str) -> bool {
+    let words = after(text, ' ');
+    let words = words.strip_suffix('.').unwrap_or(words);
+    is_likely_whole(before(text, ' '))
+        && words.split(' ').filter(|word| !word.is_empty()).count() > 1
+        && !has_piece(words, "/")
+        && !has_piece(words, ".")
+}
+
+// Whether a text is a link without a query and a fragment that ends with a slash, the name of a host or of a page.
+fn is_likely_whole(text: &str) -> bool {
+    let host = after(after(text, '/'), '/');
+    is_link_scheme(before(text, ':'))
+        && before_query(text).len() == text.len()
+        && (text.ends_with('/')
+            || (has_piece(host, ".") && !has_piece(host, "/"))
+            || PAGE_ENDINGS.iter().any(|ending| text.ends_with(*ending)))
+}
+
 // Whether what follows the first `%` has the rest of an old escape, at its start or after another `%`.
 fn has_old_escape(after: &str) -> bool {
     after.split('%').any(|rest| is_old_escape(rest))
@@ -173,8 +210,8 @@ fn is_cut_escape(rest: &str) -> bool {
     }
 }
 
-// Whether the mended text's host is an IPv4 address that isn't in the text: a number was read as octal or as hex, or one
-// number as several.
+// Whether the mended text's host is an IPv4 address that isn't in the text: a number was read as octal or as hex, or
+// one number as several.
 fn has_other_address(text: &str, mended: &str) -> bool {
     let host = before(authority_of(mended), ':');
     host.starts_with(|c: char| c.is_ascii_digit())
@@ -196,6 +233,9 @@ fn has_other_topic(text: &str, mended: &str) -> bool {
         None => false,
     }
 }
+
+// With what the names of pages end.
+const PAGE_ENDINGS: [&str; 4] = [".html", ".htm", ".pdf", ".php"];
 
 // The schemes with rules of their own for paths.
 const RULED: [&str; 10] = [

@@ -5,13 +5,14 @@ use crate::sentences::pieces::before;
 use std::alloc::{AllocError, Global};
 use uv_model::{Profile, Rule};
 
-/// What is said about a host that ends in a number, with which this text begins.
+/// The sentence on a host that ends in a number, with which this text begins.
 pub(crate) fn ipv4_sentence(
     alloc: Global,
     profile: Profile,
     text: &str,
 ) -> Result<String, AllocError> {
     let host = before(before_end(text), ':');
+    // (a host with other code points, as with a fullwidth `1`, is read as another text, so its own numbers say little)
     if !host.bytes().all(|b| b.is_ascii_alphanumeric() || b == b'.') {
         return String::from_str(alloc, Rule::HostNumber.sentence());
     }
@@ -35,7 +36,7 @@ pub(crate) fn ipv4_sentence(
     counted_sentence(alloc, profile, host)
 }
 
-// What is said about decimal numbers: that one is too large, or how many there are.
+// The sentence on decimal numbers: that one is too large, or how many there are.
 fn counted_sentence(alloc: Global, profile: Profile, host: &str) -> Result<String, AllocError> {
     let name = host.strip_suffix('.').unwrap_or(host);
     let count = name.split('.').count();
@@ -56,7 +57,7 @@ fn counted_sentence(alloc: Global, profile: Profile, host: &str) -> Result<Strin
     }
 }
 
-// What is said about a number; a long one isn't repeated.
+// The sentence on a number; a long one isn't repeated.
 fn number_sentence(alloc: Global, number: &str, said: &str) -> Result<String, AllocError> {
     if number.len() > 16 {
         format!(in alloc; "a number of this host {said}")

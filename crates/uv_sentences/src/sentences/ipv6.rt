@@ -6,7 +6,7 @@ use crate::sentences::pieces::{after, before, has_piece};
 use std::alloc::{AllocError, Global};
 use std::net::{Ipv4Addr, Ipv6Addr};
 
-/// What is said about a host that begins with `[`, with which this text begins.
+/// The sentence on a host that begins with `[`, with which this text begins.
 pub(crate) fn ipv6_sentence(alloc: Global, text: &str) -> Result<String, AllocError> {
     let authority = before_end(text);
     if !has_piece(authority, "]") {
@@ -26,7 +26,7 @@ pub(crate) fn ipv6_sentence(alloc: Global, text: &str) -> Result<String, AllocEr
     address_sentence(alloc, address)
 }
 
-// What is said about a text in brackets that isn't an IPv6 address.
+// The sentence on a text in brackets that isn't an IPv6 address.
 fn address_sentence(alloc: Global, address: &str) -> Result<String, AllocError> {
     if let Some(c) = address.chars().find(|c| !is_of_address(*c)) {
         let name = point_name(alloc, c)?;
@@ -39,7 +39,7 @@ fn address_sentence(alloc: Global, address: &str) -> Result<String, AllocError> 
     }
 }
 
-// What is said about a `[` that no `]` follows.
+// The sentence on a `[` that no `]` follows.
 fn missing_bracket(text: &str) -> &'static str {
     if is_ipv6(text) {
         "] is missing after this IPv6 address"
@@ -68,7 +68,7 @@ fn address_fault(address: &str) -> Option<&'static str> {
     }
 }
 
-// What is said about the number of pieces. An IPv4 address at the end stands for two of them.
+// The sentence on the number of pieces. An IPv4 address at the end stands for two of them.
 fn counted_sentence(alloc: Global, address: &str) -> Result<String, AllocError> {
     let pieces = address.split(':').filter(|piece| !piece.is_empty()).count();
     let more = if has_piece(address, ".") { 1 } else { 0 };
@@ -92,7 +92,7 @@ fn last_piece(address: &str) -> &str {
     address.rsplit(':').next().unwrap_or("")
 }
 
-// Whether a text is that of an IPv4 address.
+// Whether a text is an IPv4 address.
 fn is_ipv4(text: &str) -> bool {
     Ipv4Addr::parse_ascii(text.as_bytes()).is_ok()
 }
@@ -112,7 +112,7 @@ pub(crate) fn has_bare_ipv6(line: &str) -> bool {
     is_ipv6(authority_of(line))
 }
 
-/// Whether a text is that of an IPv6 address, without brackets.
+/// Whether a text is an IPv6 address, without brackets.
 pub(crate) fn is_ipv6(text: &str) -> bool {
     Ipv6Addr::parse_ascii(text.as_bytes()).is_ok()
 }

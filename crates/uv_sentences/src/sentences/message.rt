@@ -15,11 +15,11 @@ use crate::sentences::wording::{Checked, rule_note};
 use std::alloc::{AllocError, Global};
 use uv_model::{Refusal, Rule};
 
-// What is said about a link that has credentials.
+// The sentence on a link that has credentials.
 const CREDENTIALS: &str =
     "a URL string has no credentials: no user name, password or @ before its host";
 
-// What is said about a link whose host is an IPv6 address without brackets.
+// The sentence on a link whose host is an IPv6 address without brackets.
 const BARE_IPV6: &str = "a host that is an IPv6 address is written in brackets";
 
 /// What is reported about a line that was checked like this, as a sentence without its full stop: one line, without
@@ -62,7 +62,7 @@ fn violation_sentence(
     }
 }
 
-// What is said about what a line shows of its author's intention, if it shows any.
+// The sentence on what a line shows of its author's intention, if it shows any.
 fn intention_note(line: &SeenText<'_>) -> Option<&'static str> {
     line.shown_intention()?.note()
 }
@@ -89,7 +89,7 @@ fn refusal_sentence(
     }
 }
 
-// What is said about credentials. Links of other schemes than the special ones may need them.
+// The sentence on credentials. Links of other schemes than the special ones may need them.
 fn credentials_sentence(alloc: Global, line: &SeenText<'_>) -> Result<String, AllocError> {
     let advice = if line.start().is_link {
         "; leave them out"
@@ -99,7 +99,7 @@ fn credentials_sentence(alloc: Global, line: &SeenText<'_>) -> Result<String, Al
     format!(in alloc; "{CREDENTIALS}{advice}")
 }
 
-// What is said about a code point that violates a rule, if the rule is about one, otherwise the rule's sentence.
+// The sentence on a code point that violates a rule, if the rule is about one, otherwise the rule's sentence.
 fn point_sentence(alloc: Global, rule: Rule, point: Option<char>) -> Result<String, AllocError> {
     let said = match rule {
         Rule::HostCodePoint => "is not allowed in a host",

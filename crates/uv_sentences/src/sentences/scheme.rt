@@ -69,7 +69,7 @@ fn is_dotted_name(host: &str) -> bool {
             .all(|b| b.is_ascii_alphanumeric() || b == b'-' || b == b'.')
 }
 
-/// Whether `://` follows a scheme that is neither `http` nor `https`, and has their letters alone, `t` and `p` among
+/// Whether `://` follows a scheme that is neither `http` nor `https`, and has only their letters, `t` and `p` among
 /// them.
 pub(crate) fn has_misspelled_scheme(text: &str) -> bool {
     let scheme = before(text, ':');

@@ -1,4 +1,4 @@
-//! What is said about a text without a scheme and without a base: what comes before the scheme, or what is likely
+//! The sentence on a text without a scheme and without a base: what comes before the scheme, or what is likely
 //! missing.
 
 use crate::places::seen_text::SeenText;
@@ -17,7 +17,7 @@ const FILE_ENDINGS: [&str; 24] = [
     "csv", "txt", "rst", "pdf", "svg", "png", "jpg", "jpeg", "gif", "webp", "php",
 ];
 
-/// What is said about a text without a scheme: what comes before it, or that there is none.
+/// The sentence on a text without a scheme: what comes before it, or that there is none.
 pub(crate) fn start_sentence(alloc: Global, line: &SeenText<'_>) -> Result<String, AllocError> {
     if line.as_str().is_empty() {
         return String::from_str(alloc, "the text is empty");
@@ -50,7 +50,7 @@ pub(crate) fn start_note(
     }
 }
 
-// What is said about what is likely missing in a text.
+// The sentence on what is likely missing in a text.
 fn missing_note(
     alloc: Global,
     wording: Wording,
@@ -60,32 +60,41 @@ fn missing_note(
     let said = match missing {
         Missing::Colon => return colon_note(alloc, text),
         Missing::Mark(c) => return mark_note(alloc, c),
+        Missing::Scheme(c) => return scheme_note(alloc, c),
         Missing::Https => return base_note(alloc, wording, "write https: before it"),
         Missing::HttpsOfHost => return base_note(alloc, wording, "write https:// before a host"),
         Missing::Base => return base_note(alloc, wording, ""),
         Missing::LateColon => "; write :// in place of //:",
         Missing::HttpOfHost => "; write http:// before it",
         Missing::Link => "; this looks like Markdown: check the link in it",
+        Missing::Markup => "; this looks like HTML: check the link in it",
         Missing::Mailto => "; write mailto: before an address",
         Missing::PathOfSsh => "; this looks like a path of ssh",
     };
     String::from_str(alloc, said)
 }
 
-// What is said about a scheme that `//` follows at once.
+// The sentence on a scheme that `//` follows at once.
 fn colon_note(alloc: Global, text: &str) -> Result<String, AllocError> {
     let scheme = before(text, '/');
     format!(in alloc; "; a colon is missing after {scheme}")
 }
 
-// What is said about a code point between a scheme and `//`.
+// The sentence on a code point between a scheme and `//`.
 fn mark_note(alloc: Global, c: char) -> Result<String, AllocError> {
     let name = point_name(alloc, c)?;
     let name = name.as_str();
     format!(in alloc; "; {name} is in place of a colon")
 }
 
-// What is said about a text that isn't a link by itself: what to write before it, if that is known, or to give a base.
+// The sentence on a code point that is in a scheme, though none may have it.
+fn scheme_note(alloc: Global, c: char) -> Result<String, AllocError> {
+    let name = point_name(alloc, c)?;
+    let name = name.as_str();
+    format!(in alloc; "; {name} is not allowed in a scheme")
+}
+
+// The sentence on a text that isn't a link by itself: what to write before it, if that is known, or to give a base.
 // Who can't give one reads nothing of it.
 fn base_note(alloc: Global, wording: Wording, advice: &str) -> Result<String, AllocError> {
     let base = wording.base();
@@ -115,11 +124,16 @@ fn stray_in(line: &SeenText<'_>) -> Option<Stray> {
     if !opens_quotation(c) || !has_scheme(line.rest_at(1)) {
         return None;
     }
-    if line.rest_at(1).ends_with(closing_of(c)) {
+    if ends_quotation(line.rest_at(1), c) {
         Some(Stray::Pair(pair_name(c)))
     } else {
         Some(Stray::Point(c))
     }
+}
+
+// Whether a text ends with what closes a quotation that a code point opens. Low marks are closed by one of two.
+fn ends_quotation(text: &str, c: char) -> bool {
+    text.ends_with(closing_of(c)) || (c == '\u{201E}' && text.ends_with('\u{201D}'))
 }
 
 // What closes a quotation that a code point opens.
@@ -129,8 +143,11 @@ fn closing_of(c: char) -> char {
         '<' => '>',
         '[' => ']',
         '\u{AB}' => '\u{BB}',
+        '\u{BB}' => '\u{AB}',
         '\u{2018}' => '\u{2019}',
+        '\u{201A}' => '\u{2018}',
         '\u{201C}' => '\u{201D}',
+        '\u{201E}' => '\u{201C}',
         _ => c,
     }
 }
@@ -142,14 +159,17 @@ fn pair_name(c: char) -> &'static str {
         '<' => "angle brackets",
         '[' => "square brackets",
         '`' => "backticks",
+        '*' => "asterisks",
+        '_' => "underscores",
         _ => "quotation marks",
     }
 }
 
-// Whether people put links after a code point: a quotation mark, an apostrophe, a backtick or a bracket.
+// Whether people put links after a code point: a quotation mark, an apostrophe, a bracket, or a mark of Markdown.
 fn opens_quotation(c: char) -> bool {
     match c {
-        '"' | '\'' | '(' | '<' | '[' | '`' | '\u{AB}' | '\u{2018}' | '\u{201C}' => true,
+        '"' | '\'' | '(' | '<' | '[' | '`' | '*' | '_' | '\u{AB}' | '\u{BB}' => true,
+        '\u{2018}' | '\u{201A}' | '\u{201C}' | '\u{201E}' => true,
         _ => false,
     }
 }
@@ -171,13 +191,17 @@ fn is_scheme_byte(b: u8) -> bool {
 enum Missing {
     Colon,
     LateColon,
-    // This code point is in the place of the colon.
+    // This code point is written in place of the colon.
     Mark(char),
+    // This code point is in what is before `://`.
+    Scheme(char),
     Https,
     HttpsOfHost,
     HttpOfHost,
     Base,
     Link,
+    // This is an attribute of HTML.
+    Markup,
     Mailto,
     PathOfSsh,
 }
@@ -193,7 +217,13 @@ fn missing_in(text: &str) -> Option<Missing> {
     if is_markdown(text) {
         return Some(Missing::Link);
     }
-    missing_before(text, before_end(text))
+    if is_attribute(text) {
+        return Some(Missing::Markup);
+    }
+    match foreign_in_scheme(text) {
+        Some(c) => Some(Missing::Scheme(c)),
+        None => missing_before(text, before_end(text)),
+    }
 }
 
 // What is likely missing before a text that has no scheme.
@@ -211,7 +241,10 @@ fn missing_before(text: &str, head: &str) -> Option<Missing> {
     if is_local_host(head) {
         return Some(Missing::HttpOfHost);
     }
-    if is_like_host(head) || text.starts_with(|c: char| begins_reference(c)) {
+    if is_like_host(head)
+        || text.starts_with(|c: char| begins_reference(c))
+        || has_file_ending(before_query(text))
+    {
         return Some(Missing::Base);
     }
     None
@@ -238,9 +271,35 @@ fn missing_after_scheme(text: &str) -> Option<Missing> {
     }
 }
 
-// Whether a text begins as a link or a strong text of Markdown.
+// Whether a text begins as a link, a picture or a strong text of Markdown.
 fn is_markdown(text: &str) -> bool {
-    (text.starts_with('[') && has_piece(text, "](")) || text.starts_with("**")
+    (has_piece(text, "](") && (text.starts_with('[') || text.starts_with("![")))
+        || text.starts_with("**")
+}
+
+// Whether a text is an attribute of HTML: a name in lower case, `=` and a quotation mark.
+fn is_attribute(text: &str) -> bool {
+    let name = before(text, '=');
+    let value = after(text, '=');
+    !name.is_empty()
+        && name.bytes().all(|b| b.is_ascii_lowercase() || b == b'-')
+        && (value.starts_with('"') || value.starts_with('\''))
+}
+
+// The first code point that no scheme may have, if a letter begins the text and `://` comes after it. If it is
+// `/`, `?` or `#`, the text isn't one with a scheme.
+fn foreign_in_scheme(text: &str) -> Option<char> {
+    let scheme = before(text, ':');
+    let foreign = scheme.chars().find(|c| !is_scheme_point(*c))?;
+    let is_scheme = scheme.starts_with(|c: char| c.is_ascii_alphabetic())
+        && after(text, ':').starts_with("//")
+        && !matches!(foreign, '/' | '?' | '#');
+    if is_scheme { Some(foreign) } else { None }
+}
+
+// Whether a scheme may have a code point.
+fn is_scheme_point(c: char) -> bool {
+    c.is_ascii_alphanumeric() || c == '+' || c == '-' || c == '.'
 }
 
 // Whether a host, with a port or without, is likely one of this computer: `localhost`, four numbers or an IPv6 address.
@@ -279,9 +338,14 @@ fn is_like_host(host: &str) -> bool {
 // last `.`.
 fn is_like_file(name: &str) -> bool {
     let ending = name.rsplit('.').next().unwrap_or("");
-    if name.starts_with("www.") || has_piece(name, "/") {
-        return false;
-    }
+    !name.starts_with("www.")
+        && !has_piece(name, "/")
+        && (has_file_ending(name)
+            || (ending.starts_with(|c: char| c.is_ascii_digit()) && name.split('.').count() != 4))
+}
+
+// Whether the name of a file ends as few domains do.
+fn has_file_ending(name: &str) -> bool {
+    let ending = name.rsplit('.').next().unwrap_or("");
     FILE_ENDINGS.iter().any(|known| *known == ending)
-        || (ending.starts_with(|c: char| c.is_ascii_digit()) && name.split('.').count() != 4)
 }

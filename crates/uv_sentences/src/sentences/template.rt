@@ -1,4 +1,4 @@
-//! Whether a text is a template, from which a program writes another text. The signs of one stand in this file alone;
+//! Whether a text is a template, from which a program writes another text. Only this file has the signs of one;
 //! docs/FORMATS.md lists them, and a run compares that list with what the program answers.
 
 use crate::sentences::authority::authority_of;
@@ -6,8 +6,8 @@ use crate::sentences::marks::Marks;
 use crate::sentences::pieces::{after, before, has_piece};
 use uv_model::is_name;
 
-/// Whether a text with these marks is a template: it has a sign of one. In code only those signs count that code doesn't
-/// have.
+/// Whether a text with these marks is a template: it has a sign of one. In code only those signs count that code
+/// doesn't have.
 pub(crate) fn is_template(text: &str, marks: Marks) -> bool {
     has_sure_sign(text, marks)
         || (has_other_sign(text, marks) && !is_code(before(text, ':')))
@@ -27,7 +27,7 @@ fn has_sure_sign(text: &str, marks: Marks) -> bool {
         || (marks.has(b'|') && has_both(text, "*|", "|*"))
 }
 
-// Whether a text has the braces of Jinja, Liquid, Go or Mustache, or those of shells and JavaScript.
+// Whether a text has the braces of Jinja, Liquid, Go or Mustache, or of shells and JavaScript.
 fn has_sure_brace(text: &str) -> bool {
     has_both(text, "{{", "}}") || has_both(text, "{%", "%}") || has_both(text, "${", "}")
 }
@@ -86,8 +86,8 @@ fn is_escape(after: &str) -> bool {
     }
 }
 
-// Whether what follows the first `$` has the name of a variable in capitals or a command of shells, at its start or after
-// another `$`.
+// Whether what follows the first `$` has the name of a variable in capitals or a command of shells, at its start or
+// after another `$`.
 fn has_variable(after: &str) -> bool {
     after.split('$').any(|name| begins_variable(name))
 }

@@ -101,7 +101,7 @@ fn is_in_path(line: &SeenText<'_>, place: usize) -> bool {
     ahead < line.start().path_end
 }
 
-// What is said about a `%`, if it has one hex digit after it and the text or the next escape comes then.
+// The sentence on a `%`, if it has one hex digit after it and the text or the next escape comes then.
 fn escape_note(rest: &str) -> &'static str {
     match rest.as_bytes() {
         [_, digit] | [_, digit, b'%', ..] if digit.is_ascii_hexdigit() => {

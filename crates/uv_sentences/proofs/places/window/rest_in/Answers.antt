@@ -1,4 +1,4 @@
--- Before the place is ASCII alone.
+-- Before the place is only ASCII.
 use Rattle.std.proofs.Common.{◌∙◌, ap, sym, length, subst}
 use Rattle.std.specs.Str.{IsAscii, chars}
 use Rattle.uv_sentences.proofs.PlaceLemmas.{chars_after_ascii}
