@@ -5,8 +5,10 @@ head -c 65537 /dev/zero | tr '\0' a >>"$room/links.txt"
 printf '\nhelp: x:1:1: error: y [z]\n' >>"$room/links.txt"
 
 bold='\e[1m' red='\e[1;31m' cyan='\e[36m' dim='\e[2m' plain='\e[0m'
-# said LINE COLUMN SENTENCE RULE : the coloured line of `gnu` on a link
-said() { printf '%s' "${bold}links.txt:$1:$2:$plain ${red}error:$plain $3 ${dim}[$4]$plain\\n"; }
+# said_of FILE LINE COLUMN SENTENCE RULE : the coloured line of `gnu` on a link of a file
+said_of() { printf '%s' "${bold}$1:$2:$3:$plain ${red}error:$plain $4 ${dim}[$5]$plain\\n"; }
+# said LINE COLUMN SENTENCE RULE : the same of links.txt
+said() { said_of links.txt "$@"; }
 space='U+0020 SPACE is not allowed in a URL'
 hex='0x7f is hex to URL parsers: write a decimal number'
 bytes="this line isn't UTF-8"
@@ -26,6 +28,17 @@ $(said 3 1 "$bytes" not-utf8)$(marked '\xef\xbf\xbd' '')\
 $(said 4 1 "$long" line-too-long)\
 $(said 5 6 "$space" code-point)$(marked 'help: x:1:1: error: y [z]' '     ')${cyan}help:$plain write help:%20x:1:1:%20error:%20y%20%5Bz%5D\\n" '' \
     lint -q --format caret --color=always links.txt
+
+# A name may look like a part of a report, or like a colour.
+if has posix_names 2; then
+    names=('a: error: b.txt' 'note: c: 1:1: error: d [e]' $'f\e[31m')
+    for name in "${names[@]}"; do printf 'http://h/a b\n' >"$room/$name"; done
+    odd() { said_of "$1" 1 11 "$space" code-point; }
+    expect 1 "$(odd "${names[0]}")$(odd "${names[1]}")$(odd 'f\xef\xbf\xbd[31m')" '' lint -q --color always "${names[@]}"
+    expect 1 "$(odd "${names[1]}")$(marked 'http://h/a b' '          ')${cyan}help:$plain write http://h/a%20b\\n" '' \
+        lint -q --format caret --color always "${names[1]}"
+    (cd "$room" && rm -f "${names[@]}")
+fi
 
 # shows WANTED WORD.. : a lint with these words at a terminal, where WANTED says whether there are colours, and where it
 # is the same without them; words with = are of the environment
@@ -90,4 +103,4 @@ expect 2 '' "urlcheck: no colour choice is named 'allways'; the nearest is alway
 expect 2 '' "urlcheck: no colour choice is named ''\\n$choices" lint --color= --format x links.txt
 rm -f "$room/links.txt"
 
-all_cases 34
+all_cases 36

@@ -49,7 +49,7 @@ fn names_a_page_where_there_is_one(rt: HostRuntime) -> Result<(), Fail> {
     Ok(())
 }
 
-// Where in the file the text is follows the message, with the escapes of the format.
+// The message is followed by the place of the text in the file, with the escapes of the format.
 #[test]
 fn says_within_what_the_text_is(rt: HostRuntime) -> Result<(), Fail> {
     let link = SeenText::new("page.html");
@@ -89,6 +89,7 @@ fn replaces_a_text_over_two_lines(rt: HostRuntime) -> Result<(), Fail> {
         text: "a%20b",
         kind: MendKind::Escaped,
         is_offered: true,
+        is_named: false,
     };
     let found = Diagnostic {
         fix: Some(fix),
@@ -118,6 +119,7 @@ fn edits_no_file_without_a_region(rt: HostRuntime) -> Result<(), Fail> {
         text: "a%20b",
         kind: MendKind::Escaped,
         is_offered: true,
+        is_named: false,
     };
     let found = Diagnostic {
         fix: Some(fix),

@@ -2,7 +2,7 @@
 
 use std::alloc::{AllocError, Global};
 use uv_report::{
-    Columns, Completion, Diagnostic, Format, end_of, push, push_begin, push_file_begin,
+    Columns, Completion, Diagnostic, Format, Look, end_of, push, push_begin, push_file_begin,
     push_file_end,
 };
 
@@ -15,7 +15,7 @@ pub(crate) fn report(
     let mut text = String::new(alloc);
     push_begin(alloc, &mut text, format, Columns::CodePoints)?;
     push_file_begin(alloc, &mut text, format, diagnostic.file)?;
-    push(alloc, &mut text, format, diagnostic, true)?;
+    push(alloc, &mut text, format, Look::Plain, diagnostic, true)?;
     push_file_end(&mut text, format)?;
     text.push_str(end_of(format, Completion::Whole))?;
     Ok(text)

@@ -7,6 +7,7 @@ use Rattle.std.proofs.lemmas.List.{take-append-drop, take_more}
 use Rattle.uv_report.specs.declared.places.column.Columns.{Columns}
 use Rattle.uv_sentences.specs.declared.line_violation.LineViolation.{LineViolation}
 use Rattle.uv_report.specs.declared.format.Format.{Format}
+use Rattle.uv_report.specs.declared.look.Look.{Look}
 use Rattle.uv_report.specs.Diagnostic.{FixView}
 use Rattle.uv_sentences.specs.Sentences.Message.{IsMessage}
 use Rattle.uv_sentences.specs.Escaping.Escapes.{escaped}
@@ -56,7 +57,7 @@ are_filled [] rest (first ∷ messages) are = absurd are
 are_filled (b ∷ before) rest [] are = absurd are
 are_filled (b ∷ before) rest (first ∷ messages) are = (are.0, are_filled before rest messages are.1)
 
--- those of the first violations, and an empty one for each of the others
+-- the messages of the first violations, and an empty one for each of the others
 pub are_all : (violations : List LineViolation) (i : ℕ) (messages : List (List ℕ))
     → AreMessages (take i violations) messages
     → AreMessages violations (messages ++ blanks (drop i violations))
@@ -68,66 +69,66 @@ are_all violations i messages are =
 
 -- The diagnostics on the violations before this one were said. Whatever follows them, they and what is to be said of
 -- that are the diagnostics on all of it.
-abbrev pub IsSaidBefore : LineForm → Format → Columns → ReportedText → Bool → Option FixView
+abbrev pub IsSaidBefore : LineForm → Format → Look → Columns → ReportedText → Bool → Option FixView
     → List LineViolation → List (List ℕ) → List ℕ → Bool → Option FixView → Type 0
-IsSaidBefore form format columns reported is_first fix before messages said now_first told =
+IsSaidBefore form format look columns reported is_first fix before messages said now_first told =
     (rest : List LineViolation) (more : List (List ℕ))
-    → said ++ diagnostics_text form format columns reported now_first told rest more
-    ≡ diagnostics_text form format columns reported is_first fix (before ++ rest) (messages ++ more)
+    → said ++ diagnostics_text form format look columns reported now_first told rest more
+    ≡ diagnostics_text form format look columns reported is_first fix (before ++ rest) (messages ++ more)
 
 -- if none is said
-pub said_none : (form : LineForm) (format : Format) (columns : Columns) (reported : ReportedText)
+pub said_none : (form : LineForm) (format : Format) (look : Look) (columns : Columns) (reported : ReportedText)
     (is_first : Bool) (fix : Option FixView)
-    → IsSaidBefore form format columns reported is_first fix [] [] [] is_first fix
-said_none form format columns reported is_first fix = λ rest more. refl
+    → IsSaidBefore form format look columns reported is_first fix [] [] [] is_first fix
+said_none form format look columns reported is_first fix = λ rest more. refl
 
 -- they are the first diagnostics, whatever is said of others
-pub said_first : (form : LineForm) (format : Format) (columns : Columns) (reported : ReportedText)
+pub said_first : (form : LineForm) (format : Format) (look : Look) (columns : Columns) (reported : ReportedText)
     (is_first : Bool) (fix : Option FixView) (before : List LineViolation) (messages more : List (List ℕ))
     (said : List ℕ) (now_first : Bool) (told : Option FixView)
-    → IsSaidBefore form format columns reported is_first fix before messages said now_first told
-    → said ≡ diagnostics_text form format columns reported is_first fix before (messages ++ more)
-said_first form format columns reported is_first fix before messages more said now_first told is =
+    → IsSaidBefore form format look columns reported is_first fix before messages said now_first told
+    → said ≡ diagnostics_text form format look columns reported is_first fix before (messages ++ more)
+said_first form format look columns reported is_first fix before messages more said now_first told is =
     sym (append-nil said) ∙ is [] more
-    ∙ ap (λ vs. diagnostics_text form format columns reported is_first fix vs (messages ++ more)) (append-nil before)
+    ∙ ap (λ vs. diagnostics_text form format look columns reported is_first fix vs (messages ++ more)) (append-nil before)
 
 -- one more
-said_more : (form : LineForm) (format : Format) (columns : Columns) (reported : ReportedText)
+said_more : (form : LineForm) (format : Format) (look : Look) (columns : Columns) (reported : ReportedText)
     (is_first now_first : Bool) (fix told : Option FixView) (before : List LineViolation) (messages : List (List ℕ))
     (violation : LineViolation) (message said : List ℕ)
-    → IsSaidBefore form format columns reported is_first fix before messages said now_first told
-    → IsSaidBefore form format columns reported is_first fix (before ++ violation ∷ []) (messages ++ message ∷ [])
-    (said ++ one_text form format now_first (diagnostic_on columns reported told violation message)) false None
-said_more form format columns reported is_first now_first fix told before messages violation message said is =
+    → IsSaidBefore form format look columns reported is_first fix before messages said now_first told
+    → IsSaidBefore form format look columns reported is_first fix (before ++ violation ∷ []) (messages ++ message ∷ [])
+    (said ++ one_text form format look now_first (diagnostic_on columns reported told violation message)) false None
+said_more form format look columns reported is_first now_first fix told before messages violation message said is =
     λ rest more.
     append_assoc said
-    (one_text form format now_first (diagnostic_on columns reported told violation message))
-    (diagnostics_text form format columns reported false None rest more)
+    (one_text form format look now_first (diagnostic_on columns reported told violation message))
+    (diagnostics_text form format look columns reported false None rest more)
     ∙ is (violation ∷ rest) (message ∷ more)
-    ∙ ap (λ vs. diagnostics_text form format columns reported is_first fix vs (messages ++ message ∷ more))
+    ∙ ap (λ vs. diagnostics_text form format look columns reported is_first fix vs (messages ++ message ∷ more))
     (sym (append_assoc before (violation ∷ []) rest))
-    ∙ ap (λ ms. diagnostics_text form format columns reported is_first fix ((before ++ violation ∷ []) ++ rest) ms)
+    ∙ ap (λ ms. diagnostics_text form format look columns reported is_first fix ((before ++ violation ∷ []) ++ rest) ms)
     (sym (append_assoc messages (message ∷ []) more))
 
 -- one diagnostic more, on the next violation of a list
-pub said_next : (form : LineForm) (format : Format) (columns : Columns) (reported : ReportedText)
+pub said_next : (form : LineForm) (format : Format) (look : Look) (columns : Columns) (reported : ReportedText)
     (is_first now_first : Bool) (fix told : Option FixView) (violations : List LineViolation) (i : ℕ)
     (none : LineViolation) (messages : List (List ℕ)) (message said : List ℕ)
     → i < length violations
-    → IsSaidBefore form format columns reported is_first fix (take i violations) messages said now_first told
-    → IsSaidBefore form format columns reported is_first fix (take (i + 1) violations) (messages ++ message ∷ [])
-    (said ++ one_text form format now_first
+    → IsSaidBefore form format look columns reported is_first fix (take i violations) messages said now_first told
+    → IsSaidBefore form format look columns reported is_first fix (take (i + 1) violations) (messages ++ message ∷ [])
+    (said ++ one_text form format look now_first
     (diagnostic_on columns reported told (get_or violations i none) message)) false None
-said_next form format columns reported is_first now_first fix told violations i none messages message said within is =
+said_next form format look columns reported is_first now_first fix told violations i none messages message said within is =
     rw (take_more violations i none within)
-    (said_more form format columns reported is_first now_first fix told (take i violations) messages
+    (said_more form format look columns reported is_first now_first fix told (take i violations) messages
     (get_or violations i none) message said is)
 
 -- the diagnostics on a line's violations before this one were said
 abbrev pub IsSaidOf : ReportedLine → LintSetting → Bool → Option MendedLine → List LineViolation → List (List ℕ)
     → List ℕ → Bool → Option FixView → Type 0
 IsSaidOf line setting is_first mended before messages said now_first told =
-    IsSaidBefore setting.form setting.format setting.columns (reported_view line) is_first
+    IsSaidBefore setting.form setting.format setting.look setting.columns (reported_view line) is_first
     (fix_on setting.columns (reported_view line) (option_map mended_line_view mended)) before messages said now_first
     told
 
@@ -151,7 +152,7 @@ first_with line setting is_first mended violations i messages message said one n
       (
         i,
         ap (λ t. said ++ t) none ∙ append-nil said
-            ∙ said_first setting.form setting.format setting.columns (reported_view line) is_first
+            ∙ said_first setting.form setting.format setting.look setting.columns (reported_view line) is_first
             (fix_on setting.columns (reported_view line) (option_map mended_line_view mended)) (take i violations)
             messages others said now_first told is,
       ),
@@ -165,7 +166,7 @@ first_with line setting is_first mended violations i messages message said one n
       (
         i + 1,
         ap (λ t. said ++ t) more
-            ∙ said_first setting.form setting.format setting.columns (reported_view line) is_first
+            ∙ said_first setting.form setting.format setting.look setting.columns (reported_view line) is_first
             (fix_on setting.columns (reported_view line) (option_map mended_line_view mended))
             (take (i + 1) violations) (messages ++ message ∷ []) others (said ++ one) false None with_one,
       ),

@@ -89,7 +89,7 @@ pub line_begun : (before : Linting) (line : Option (List ℕ)) (place : Place) (
 line_begun before line place text violations parts stands is are begun =
     inr (violations, are, subst (λ r. HasBegun before r violations parts) (ap (λ t. shown_at place t) is ∙ stands) begun)
 
--- nothing is said of a line with which nothing is wrong
+-- a line with which nothing is wrong isn't reported
 pub fine_line : (before after : Linting) (line : Option (List ℕ)) (waited : List ℕ) (a : Option (List ℕ))
     → AreViolations before.setting line [] → after ≡ with_line before line []
     → HasReportedLine before line waited a after waited a

@@ -83,7 +83,7 @@ was_reported n p q (l ∷ ls) text all =
           (checked_lines (p.lines + 1) (map (short_line n) ls)) more.findings;
     }
 
--- what was said of lines, one after the other, and of a further line the first diagnostics alone
+-- what was said of lines, one after the other, and of a further line only the first diagnostics
 record WasBegun (n : ℕ) (p : Linting) (ls : List (List ℕ)) (l : List ℕ) (text : List ℕ) (q : Linting) : Type 0 where
   findings : List Findings
   last : Findings

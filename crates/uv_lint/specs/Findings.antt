@@ -19,13 +19,15 @@ use Rattle.uv_report.specs.Format.{shows_mended}
 use Rattle.uv_lint.specs.LineViolations.{AreViolations, FileSetting, link_of}
 use Rattle.uv_lint.specs.Located.{LocatedLink}
 
--- a valid text, how it is to the refused one, and whether it is offered in its place
+-- a valid text, how it is to the refused one, whether it is offered in its place, and whether the message says what to
+-- write instead
 pub record MendedText : Type 0 where
   pub text : List ℕ
   pub kind : MendKind
   pub is_offered : Bool
+  pub is_named : Bool
 
--- what is wrong with a line, what is said of each violation, and what to write in place of the line's text, where that
+-- what is wrong with a line, the messages on each violation, and what to write in place of the line's text, where that
 -- is to be said
 pub record Findings : Type 0 where
   pub violations : List LineViolation
@@ -66,8 +68,8 @@ text_of setting line = text_by (link_of setting.form line) line
 
 -- ---- what to write in its place
 
--- The mended text is that of an answer, where it has one. Whether it is offered is a judgement of what was meant, of
--- which nothing is said here.
+-- The mended text is the text of an answer, where it has one. Whether it is offered is a judgement of what was meant,
+-- and so is whether the message says that; this leaves both open.
 abbrev pub IsMendedOf : Mending → Option MendedText → Type 0
 IsMendedOf (answer.Mended text kind) (Some mended) = (mended.text ≡ string_bytes text) × (mended.kind ≡ kind)
 IsMendedOf (answer.Mended text kind) None = ⊥

@@ -16,19 +16,22 @@ use Rattle.uv_report.specs.declared.places.column.Columns.{Columns}
 use Rattle.uv_sentences.specs.declared.line_violation.LineViolation.{LineViolation}
 use Rattle.uv_sentences.specs.declared.line_violation.LineViolation.TheVariants.{Refused, NotUtf8, TooLong, NotLocated}
 use Rattle.uv_report.specs.declared.format.Format.{Format}
+use Rattle.uv_report.specs.declared.look.Look.{Look}
 use Rattle.uv_lint.specs.declared.setting.LineForm.{LineForm}
 use Rattle.uv_lint.specs.declared.setting.LineForm.TheVariants.{Plain, Located}
 use Rattle.uv_lint.specs.declared.setting.LintSetting.{LintSetting}
 use Rattle.uv_lint.specs.Located.{LocatedLink, located}
 use Rattle.uv_lint.specs.LocatedFault.{located_fault}
 
--- a file's name, what its lines are checked by, how what is found is written, what columns count, and what a line is
+-- a file's name, what its lines are checked by, how what is found is written and looks, what columns count, and what a
+-- line is
 pub record FileSetting : Type 0 where
   pub file : List ℕ
   pub base : Option Url
   pub profile : Profile
   pub extent : Extent
   pub format : Format
+  pub look : Look
   pub columns : Columns
   pub form : LineForm
 
@@ -40,6 +43,7 @@ file_setting file setting = record {
   profile = setting.profile;
   extent = setting.extent;
   format = setting.format;
+  look = setting.look;
   columns = setting.columns;
   form = setting.form;
 }

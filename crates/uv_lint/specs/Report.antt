@@ -8,6 +8,7 @@ use Rattle.uv_report.specs.declared.places.column.Columns.{Columns}
 use Rattle.uv_report.specs.declared.diagnostic.Region.{Region}
 use Rattle.uv_sentences.specs.declared.line_violation.LineViolation.{LineViolation}
 use Rattle.uv_report.specs.declared.format.Format.{Format}
+use Rattle.uv_report.specs.declared.look.Look.{Look}
 use Rattle.uv_report.specs.Places.Column.{column_at, width}
 use Rattle.uv_report.specs.Diagnostic.{DiagnosticView, FixView}
 use Rattle.uv_sentences.specs.LineViolation.{violation_address, violation_end, violation_name}
@@ -62,6 +63,7 @@ fix_of columns reported mended = record {
   text = mended.text;
   kind = mended.kind;
   is_offered = mended.is_offered;
+  is_named = mended.is_named;
 }
 
 -- what a diagnostic carries of it
@@ -99,23 +101,23 @@ ForeignColumns =
     ≡ min (start + width columns start (chars (take (utf8_valid_len bytes) bytes))) (2 ^ 64 - 1)
 
 -- a diagnostic with what is round it
-abbrev pub one_text : LineForm → Format → Bool → DiagnosticView → List ℕ
-one_text form format is_first found =
-    framed_text form format found.file (diagnostic_text format is_first found)
+abbrev pub one_text : LineForm → Format → Look → Bool → DiagnosticView → List ℕ
+one_text form format look is_first found =
+    framed_text form format found.file (diagnostic_text format look is_first found)
 
--- A diagnostic for each violation, with its message; the first of them is the first one of the report, or isn't, and it
--- alone says what to write in place of the text.
-abbrev pub diagnostics_text : LineForm → Format → Columns → ReportedText → Bool → Option FixView
+-- A diagnostic for each violation, with its message; the first of them is the first one of the report, or isn't, and
+-- only it says what to write in place of the text.
+abbrev pub diagnostics_text : LineForm → Format → Look → Columns → ReportedText → Bool → Option FixView
     → List LineViolation → List (List ℕ) → List ℕ
-diagnostics_text form format columns reported is_first fix (violation ∷ rest) (message ∷ messages) =
-    one_text form format is_first (diagnostic_on columns reported fix violation message)
-    ++ diagnostics_text form format columns reported false None rest messages
-diagnostics_text form format columns reported is_first fix _ _ = []
+diagnostics_text form format look columns reported is_first fix (violation ∷ rest) (message ∷ messages) =
+    one_text form format look is_first (diagnostic_on columns reported fix violation message)
+    ++ diagnostics_text form format look columns reported false None rest messages
+diagnostics_text form format look columns reported is_first fix _ _ = []
 
 -- the diagnostics on a text of which this was found
 abbrev pub text_diagnostics : FileSetting → ReportedText → Bool → Findings → List ℕ
 text_diagnostics setting reported is_first findings =
-    diagnostics_text setting.form setting.format setting.columns reported is_first
+    diagnostics_text setting.form setting.format setting.look setting.columns reported is_first
     (fix_on setting.columns reported findings.mended) findings.violations findings.messages
 
 -- what the diagnostics on a line tell: its link, where the line says that it is, otherwise the line with this number
@@ -206,8 +208,8 @@ pub record IsReport (setting : FileSetting) (line_bytes : ℕ) (is_first : Bool)
       ++ list_end_text setting.form setting.format)
   pub counts_are : counts ≡ tally (lines_within line_bytes lines) findings
 
--- The text is the report on lines, on the last of which it has only some of the first diagnostics; its end is
--- after them. The counts are those of the lines before that.
+-- The text is the report on lines, on the last of which it has only some of the first diagnostics; its end is after
+-- them. The lines before that are counted.
 pub record IsReportBegun (setting : FileSetting) (line_bytes : ℕ) (is_first : Bool) (lines : List (List ℕ))
     (text : List ℕ) (counts : LintCounts) : Type 0 where
   pub before : List (List ℕ)

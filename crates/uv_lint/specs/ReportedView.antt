@@ -1,5 +1,6 @@
 -- What the code's values of a text and its place denote.
 use Rattle.std.specs.Prelude.{◌≡◌, ℕ, Bool, List, Option, option_copied, option_map, string_bytes, take}
+use Rattle.uv_report.specs.Diagnostic.{DiagnosticView}
 use Rattle.uv_sentences.specs.declared.line_violation.LineViolation.{LineViolation}
 use Rattle.uv_lint.specs.declared.mended_line.MendedLine.{MendedLine}
 use Rattle.uv_lint.specs.declared.reported_line.Place.{Place}
@@ -7,7 +8,7 @@ use Rattle.uv_lint.specs.declared.reported_line.ReportedLine.{ReportedLine}
 use Rattle.uv_lint.specs.declared.setting.LintSetting.{LintSetting}
 use Rattle.uv_lint.specs.Findings.{AreMessages, MendedText, shown}
 use Rattle.uv_lint.specs.LineViolations.{file_setting}
-use Rattle.uv_lint.specs.Report.{ReportedText, text_diagnostics}
+use Rattle.uv_lint.specs.Report.{ReportedText, one_text, text_diagnostics}
 
 -- a text that isn't shown yet
 abbrev pub place_view : Place → ReportedText
@@ -29,10 +30,18 @@ reported_view reported =
 
 -- a mended text
 abbrev pub mended_line_view : MendedLine → MendedText
-mended_line_view mended =
-    record { text = string_bytes mended.text; kind = mended.kind; is_offered = mended.is_offered }
+mended_line_view mended = record {
+  text = string_bytes mended.text;
+  kind = mended.kind;
+  is_offered = mended.is_offered;
+  is_named = mended.is_named;
+}
 
--- what is said of a text of which this was found, by these messages
+-- the text of a diagnostic, with what is round it where lines say where their links are
+abbrev pub said_text : LintSetting → Bool → DiagnosticView → List ℕ
+said_text setting is_first found = one_text setting.form setting.format setting.look is_first found
+
+-- the report on a text of which this was found, by these messages
 abbrev pub text_said : ReportedLine → LintSetting → Bool → Option MendedLine → List LineViolation → List (List ℕ)
     → List ℕ
 text_said line setting is_first mended violations messages =

@@ -109,8 +109,8 @@ impl<'a> LintReporter<'a> {
         }
     }
 
-    // Reports on the next line, whose text is refused so, and counts it. Memory is taken for more than one violation alone.
-    // It is never inlined, so that a valid text takes no room for it.
+    // Reports on the next line, whose text is refused so, and counts it. Memory is only taken for more than one
+    // violation. It is never inlined, so that a valid text takes no room for it.
     #[inline(never)]
     fn report_refused<W: Sink>(
         &mut self,
@@ -163,7 +163,8 @@ impl<'a> LintReporter<'a> {
         each_refused(alloc, refusals.as_slice())
     }
 
-    // The text by which a line that isn't empty is checked, its link's where lines say where that is, or why it has none.
+    // The text by which a line that isn't empty is checked, its link's where lines say where that is, or why it has
+    // none.
     fn checked_text<'l>(&self, line: Option<Line<'l>>) -> Result<&'l str, LineViolation>
         requires some { checked_of (option_map bytes_of line) ≡ 1 }
         ensures text { IfOk result (λ checked. IsCheckedBy self.now.setting (option_map bytes_of line.entry)
@@ -207,7 +208,7 @@ fn text_of<'l>(line: Line<'l>) -> Result<&'l str, LineViolation>
     }
 }
 
-// What is wrong with a line that is to say where its link is, and doesn't.
+// The violation of a line that has to say where its link is, but doesn't.
 fn stray_violation(line: &[u8]) -> LineViolation
     ensures { AreStrayViolations line.now (result ∷ []) }
 {

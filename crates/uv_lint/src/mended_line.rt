@@ -13,14 +13,16 @@ use std::alloc::{AllocError, Global};
 use uv_mend::{MendKind, Mending, mend_refused};
 use uv_model::Refusal;
 use uv_report::{ColumnCounter, Columns, Fix};
-use uv_sentences::{LineViolation, SeenText, is_offered};
+use uv_sentences::{LineViolation, SeenText, is_named, is_offered};
 
-/// A valid text, how it is to the refused one, and whether it is offered in its place.
+/// A valid text, how it is to the refused one, whether it is offered in its place, and whether the message says what to
+/// write instead.
 #[derive(Drop)]
 pub(crate) struct MendedLine {
     pub(crate) text: String,
     pub(crate) kind: MendKind,
     pub(crate) is_offered: bool,
+    pub(crate) is_named: bool,
 }
 
 impl MendedLine {
@@ -31,6 +33,7 @@ impl MendedLine {
         match mending {
             Mending::Mended { text, kind } => Some(MendedLine {
                 is_offered: is_offered(seen, text.as_str()),
+                is_named: is_named(seen),
                 text,
                 kind,
             }),
@@ -86,6 +89,7 @@ pub(crate) fn fix_in_place<'l>(
             text: mended.text.as_str(),
             kind: mended.kind,
             is_offered: mended.is_offered,
+            is_named: mended.is_named,
         }),
         None => None,
     }

@@ -8,9 +8,9 @@ ghost use Rattle.uv_report.specs.Diagnostic.{diagnostic_view, fix_view};
 ghost use Rattle.uv_sentences.specs.Sentences.Message.{IsMessage};
 ghost use Rattle.uv_lint.specs.LocatedViews.{link_view};
 ghost use Rattle.uv_lint.specs.Findings.{AreMessages, IsUtf8WhereRefused, bytes_by, is_refused, shown};
-ghost use Rattle.uv_lint.specs.Report.{diagnostic_in, one_text, region_in, reported_by};
+ghost use Rattle.uv_lint.specs.Report.{diagnostic_in, region_in, reported_by};
 ghost use Rattle.uv_lint.specs.Reporting.{IsNoneOr};
-ghost use Rattle.uv_lint.specs.ReportedView.{AreFirstSaid, place_view, reported_view, text_said};
+ghost use Rattle.uv_lint.specs.ReportedView.{AreFirstSaid, place_view, reported_view, said_text, text_said};
 
 use crate::located::LocatedLink;
 use crate::mended_line::{MendedLine, fix_in_place};
@@ -39,7 +39,7 @@ pub(crate) struct Place<'l> {
 }
 
 impl<'l> Place<'l> {
-    /// Where a line with this number is in a file, or its link, where it says where that is.
+    /// The place in a file of the line with this number, or of its link if the line says where that is.
     pub(crate) fn of(
         file: &'l str,
         number: u64,
@@ -144,7 +144,7 @@ impl<'l> ReportedLine<'l> {
     }
 }
 
-// What is said of a violation of a line: in which region it is, in which sentence, and with what to write.
+// The report on a violation of a line: in which region it is, in which sentence, and with what to write.
 #[derive(Clone, Copy)]
 struct Said<'x> {
     region: Region,
@@ -234,12 +234,12 @@ fn say_violation<W: Sink>(
 ) -> Result<(), ReportFault<AllocError>>
     requires writes { W.failed writer.old < 2 ^ 64 - 1 }
     requires seen { seen.now ≡ line.now.text.now }
-    ensures text { OnOk result (Passes (text.old.items ++ one_text setting.entry.form setting.entry.format is_first
+    ensures text { OnOk result (Passes (text.old.items ++ said_text setting.entry is_first
         (diagnostic_in (reported_view line.now) said.entry.region (option_map fix_view said.entry.fix)
         said.entry.violation said.entry.message.now))
         (W.contents writer.old) (W.contents writer.new) text.new.items) }
     ensures quiet { OnOk result (W.failed writer.new ≡ W.failed writer.old) }
-    ensures fault { IfErr result (λ e. LeavesParts (IsNoneOr (one_text setting.entry.form setting.entry.format is_first
+    ensures fault { IfErr result (λ e. LeavesParts (IsNoneOr (said_text setting.entry is_first
         (diagnostic_in (reported_view line.now) said.entry.region (option_map fix_view said.entry.fix)
         said.entry.violation said.entry.message.now))) e
         text.old.items (W.contents writer.old) text.new.items (W.contents writer.new)) }
@@ -260,10 +260,10 @@ fn say_framed<W: Sink>(
     writer: &mut W,
 ) -> Result<(), ReportFault<AllocError>>
     requires { W.failed writer.old < 2 ^ 64 - 1 }
-    ensures text { OnOk result (Passes (text.old.items ++ one_text setting.entry.form setting.entry.format is_first
+    ensures text { OnOk result (Passes (text.old.items ++ said_text setting.entry is_first
         (diagnostic_view diagnostic.now)) (W.contents writer.old) (W.contents writer.new) text.new.items) }
     ensures quiet { OnOk result (W.failed writer.new ≡ W.failed writer.old) }
-    ensures fault { IfErr result (λ e. LeavesParts (IsNoneOr (one_text setting.entry.form setting.entry.format is_first
+    ensures fault { IfErr result (λ e. LeavesParts (IsNoneOr (said_text setting.entry is_first
         (diagnostic_view diagnostic.now))) e text.old.items (W.contents writer.old) text.new.items
         (W.contents writer.new)) }
     ensures failed { IfErr result (λ e. W.failed writer.new ≡ W.failed writer.old + failed_within e) }
@@ -286,7 +286,7 @@ fn append_framed(
     is_first: bool,
     text: &mut Vec<u8>,
 ) -> Result<(), AllocError>
-    ensures text { OnOk result (text.new.items ≡ text.old.items ++ one_text setting.entry.form setting.entry.format
+    ensures text { OnOk result (text.new.items ≡ text.old.items ++ said_text setting.entry
         is_first (diagnostic_view diagnostic.now)) }
     ensures none { OnErr result (text.new.items ≡ text.old.items) }
 {
@@ -303,16 +303,17 @@ fn put_framed(
     diagnostic: &Diagnostic<'_>,
     is_first: bool,
 ) -> Result<(), AllocError>
-    ensures { OnOk result (string_bytes reported.new ≡ one_text setting.entry.form setting.entry.format is_first
+    ensures { OnOk result (string_bytes reported.new ≡ said_text setting.entry is_first
         (diagnostic_view diagnostic.now)) }
 {
     let format = setting.format;
+    let look = setting.look;
     reported.clear();
     match setting.form {
-        LineForm::Plain => push(alloc, reported, format, diagnostic, is_first),
+        LineForm::Plain => push(alloc, reported, format, look, diagnostic, is_first),
         LineForm::Located => {
             push_file_begin(alloc, reported, format, diagnostic.file)?;
-            push(alloc, reported, format, diagnostic, is_first)?;
+            push(alloc, reported, format, look, diagnostic, is_first)?;
             push_file_end(reported, format)
         }
     }

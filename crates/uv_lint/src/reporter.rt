@@ -1,4 +1,4 @@
-//! What reports on the lines of a file.
+//! The reporter on a file's lines.
 ghost use Rattle.std.specs.Prelude.{◌≡◌, ◌+◌, ◌-◌, ◌^◌, ◌<◌, [], IfErr, OnErr, OnOk, if◌then◌else◌, option_copied};
 ghost use Rattle.std.specs.Prelude.{option_map};
 ghost use Rattle.uv_lines.specs.Fault.{failed_within};
@@ -23,8 +23,8 @@ use uv_lines::{Line, ReportFault, Reporter, without_mark};
 use uv_model::{Extent, Profile, Record};
 use uv_sentences::LineViolation;
 
-/// What reports on the lines of a file: what they are checked by, whether no diagnostic of the report was written yet,
-/// and the counts of the lines before.
+/// The reporter on a file's lines: how they are checked, whether the report has no diagnostic yet, and the counts of
+/// the lines before.
 #[derive(Drop)]
 pub(crate) struct LintReporter<'a> {
     file: &'a str,

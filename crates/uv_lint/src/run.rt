@@ -35,9 +35,8 @@ const LINE_LIMITS: LineLimits = LineLimits {
 /// bytes, and 1,000,000,000 lines may come. What is found with the lines that a read has ended is written before the
 /// next read, and sooner where 262,144 bytes or more wait after a diagnostic. What is after the diagnostics is written
 /// after each fault but one of a write. If memory ran out, nothing may have been written, and the last line that is
-/// reported on may have only its first diagnostics. The writer isn't flushed. The counts are those of the lines that
-/// were reported on whole, also after a fault. After a fault nothing is tried again, and how far the reader was read is
-/// open.
+/// reported on may have only its first diagnostics. The writer isn't flushed. The lines that were reported on whole are
+/// counted, even after a fault. After a fault nothing is tried again, and how far the reader was read is open.
 pub fn run_lint<R: Source, W: Sink>(
     alloc: Global,
     reader: &mut R,

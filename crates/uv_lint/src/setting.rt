@@ -1,7 +1,7 @@
 //! What the lines of a file are checked by, and how what is found is written.
 
 use uv_model::{Extent, Profile, Record};
-use uv_report::{Columns, Format};
+use uv_report::{Columns, Format, Look};
 
 /// What the lines of a file are checked by, and how what is found is written.
 #[derive(Clone, Copy)]
@@ -14,6 +14,8 @@ pub struct LintSetting<'b> {
     pub extent: Extent,
     /// How they are written.
     pub format: Format,
+    /// Whether they have colours.
+    pub look: Look,
     /// What columns count, also those that located lines give.
     pub columns: Columns,
     /// What a line is.

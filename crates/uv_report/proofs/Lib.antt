@@ -1,4 +1,5 @@
 pub mod PieceLemmas
 mod ColumnLemmas
+mod LookLemmas
 mod PrintableLemmas
 mod UriLemmas

@@ -1,4 +1,4 @@
--- A diagnostic as data: where something is wrong in a file, by which rule, what is said of it, and what to write there.
+-- A diagnostic as data: where something is wrong in a file, by which rule, the message, and what to write there.
 use Rattle.std.specs.Prelude.{ℕ, ◌==◌, Bool, List, ◌++◌, codes, Option, Some, None, if◌then◌else◌, length}
 use Rattle.std.specs.Prelude.{option_map}
 use Rattle.uv_model.specs.declared.mend_kind.MendKind.{MendKind}
@@ -7,16 +7,17 @@ use Rattle.uv_report.specs.declared.diagnostic.Fix.{Fix}
 use Rattle.uv_report.specs.declared.diagnostic.Region.{Region}
 use Rattle.uv_sentences.specs.Places.Window.{carried}
 
--- what to write in place of a text: where that is, if a program may write there, how it is to that, and whether it is
--- offered
+-- what to write in place of a text: where that is, if a program may write there, how it is to that, whether it is
+-- offered, and whether the message says what to write instead
 pub record FixView : Type 0 where
   pub region : Option Region
   pub text : List ℕ
   pub kind : MendKind
   pub is_offered : Bool
+  pub is_named : Bool
 
--- what is wrong somewhere in a file: where, by which rule, which is told of there, what is said of it, within what it is,
--- the text and the place in it, how many are the same before it, and what to write in place of the text
+-- what is wrong somewhere in a file: where, by which rule, which is told of there, the message, within what it is, the
+-- text and the place in it, how many are the same before it, and what to write in place of the text
 pub record DiagnosticView : Type 0 where
   pub file : List ℕ
   pub region : Region
@@ -37,6 +38,7 @@ fix_view fix = record {
   text = fix.text.now;
   kind = fix.kind;
   is_offered = fix.is_offered;
+  is_named = fix.is_named;
 }
 
 abbrev pub diagnostic_view : Diagnostic → DiagnosticView

@@ -27,9 +27,9 @@ formats = Gnu ∷ Caret ∷ Json ∷ Github ∷ Sarif ∷ Checkstyle ∷ Junit �
 abbrev pub named_format : List ℕ → Option Format
 named_format name = find (λ format. bytes_eq name (format_name format)) formats
 
--- the format takes columns that count this: SARIF has words for code points and for code units of UTF-16 alone (SARIF
--- 2.1.0, section 3.14), those of reviewdog are bytes (Reviewdog Diagnostic Format, Position), and the others leave it
--- open
+-- the format takes columns that count this: SARIF has words only for code points and for code units of UTF-16 (SARIF
+-- 2.1.0, section 3.14), the columns of reviewdog are bytes (Reviewdog Diagnostic Format, Position), and the others
+-- leave it open
 abbrev pub takes_columns : Format → Columns → Bool
 takes_columns Sarif CodePoints = true
 takes_columns Sarif Utf16 = true

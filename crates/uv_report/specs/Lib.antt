@@ -4,5 +4,6 @@ pub mod Json
 pub mod Pieces
 pub mod Diagnostic
 pub mod Format
+pub mod Look
 pub mod Formats
 pub mod Report

@@ -6,6 +6,7 @@ use Rattle.uv_report.specs.declared.completion.Completion.{Completion}
 use Rattle.uv_report.specs.declared.format.Format.{Format}
 use Rattle.uv_report.specs.declared.format.Format.TheVariants.{Gnu, Caret, Json, Github, Sarif, Checkstyle}
 use Rattle.uv_report.specs.declared.format.Format.TheVariants.{Junit, Gitlab, Rdjson}
+use Rattle.uv_report.specs.declared.look.Look.{Look}
 use Rattle.uv_report.specs.Diagnostic.{DiagnosticView, told}
 use Rattle.uv_report.specs.Formats.Caret.{caret_text}
 use Rattle.uv_report.specs.Formats.Checkstyle.{checkstyle_text, document_begin, document_end, file_begin, file_end}
@@ -32,22 +33,22 @@ file_begin_text Checkstyle file = file_begin file
 file_begin_text Junit file = suite_begin file
 file_begin_text _ file = []
 
--- a diagnostic with its whole message, which is the first one of the report or isn't
-abbrev pub told_text : Format → Bool → DiagnosticView → List ℕ
-told_text Gnu is_first found = gnu_text found
-told_text Caret is_first found = caret_text found
-told_text Json is_first found = json_line found
-told_text Github is_first found = github_text found
-told_text Sarif is_first found = sarif_text is_first found
-told_text Checkstyle is_first found = checkstyle_text found
-told_text Junit is_first found = junit_text found
-told_text Gitlab is_first found = gitlab_text is_first found
-told_text Rdjson is_first found = rdjson_text is_first found
+-- a diagnostic with its whole message, which looks so, and is the first one of the report or isn't
+abbrev pub told_text : Format → Look → Bool → DiagnosticView → List ℕ
+told_text Gnu look is_first found = gnu_text look found
+told_text Caret look is_first found = caret_text look found
+told_text Json look is_first found = json_line found
+told_text Github look is_first found = github_text found
+told_text Sarif look is_first found = sarif_text is_first found
+told_text Checkstyle look is_first found = checkstyle_text found
+told_text Junit look is_first found = junit_text found
+told_text Gitlab look is_first found = gitlab_text is_first found
+told_text Rdjson look is_first found = rdjson_text is_first found
 
 -- a diagnostic: within what it is is said after its message
-abbrev pub diagnostic_text : Format → Bool → DiagnosticView → List ℕ
-diagnostic_text format is_first found =
-    told_text format is_first (record found { message = told found.message found.within })
+abbrev pub diagnostic_text : Format → Look → Bool → DiagnosticView → List ℕ
+diagnostic_text format look is_first found =
+    told_text format look is_first (record found { message = told found.message found.within })
 
 -- what is after the diagnostics of a file
 abbrev pub file_end_text : Format → List ℕ

@@ -1,4 +1,4 @@
-//! A diagnostic as data: its texts are made by whoever has them, and a format only writes them.
+//! A diagnostic as data: its texts are made where they are known, and a format only writes them.
 ghost use Rattle.std.specs.Cow.{cow_str_bytes};
 ghost use Rattle.std.specs.Prelude.{◌≡◌, ◌++◌, IfOk, codes, option_map, string_bytes};
 ghost use Rattle.uv_report.specs.Diagnostic as spec;
@@ -26,7 +26,7 @@ pub struct Region {
 /// What to write in place of a text.
 #[derive(Clone, Copy)]
 pub struct Fix<'a> {
-    /// Where all of that text is, if a program may replace it there.
+    /// The region of all of that text, if a program may replace it there.
     pub region: Option<Region>,
     /// A valid text.
     pub text: &'a str,
@@ -34,6 +34,8 @@ pub struct Fix<'a> {
     pub kind: MendKind,
     /// Whether it is offered: nothing suggests that something else was meant.
     pub is_offered: bool,
+    /// Whether the message says what to write instead. If so, people aren't told of a text that isn't offered.
+    pub is_named: bool,
 }
 
 /// What is wrong with a line of a file, or with a text that is a part of one.

@@ -12,7 +12,7 @@ use std::str::from_utf8_unchecked;
 /// A piece of a text of JSON: a member of an object, or where an object or an array begins or ends.
 #[derive(Clone, Copy)]
 pub(crate) enum Piece<'t> {
-    /// The beginning of an object that is no member.
+    /// The beginning of an object that isn't a member.
     Begin,
     /// The end of an object.
     End,
@@ -52,7 +52,7 @@ impl Model for JsonText {
 }
 
 impl JsonText {
-    /// A text without tokens, with room for those of most diagnostics.
+    /// A text without tokens, with room for the tokens of most diagnostics.
     pub(crate) fn new(alloc: Global) -> Result<JsonText, AllocError>
         ensures { IfOk result (λ json. json ≡ []) }
     {

@@ -6,12 +6,16 @@ mod diagnostic;
 mod format;
 mod formats;
 mod json_text;
+mod look;
 mod places;
 mod report;
 
 pub use completion::Completion;
 pub use diagnostic::{Diagnostic, Fix, Region};
 pub use format::Format;
+pub use look::Look;
 pub use places::column::Columns;
 pub use places::column_counter::ColumnCounter;
-pub use report::{end_of, push, push_begin, push_file_begin, push_file_end};
+pub use report::{
+    begin_of, end_of, file_begin_of, file_end_of, push, push_begin, push_file_begin, push_file_end,
+};

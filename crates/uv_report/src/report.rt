@@ -1,15 +1,17 @@
 //! Reports in any format. A report has a beginning, then for each file a beginning, diagnostics and an end, and then an
 //! end.
-ghost use Rattle.std.specs.Prelude.{◌≡◌, ◌++◌, IfOk, OnErr, OnOk, string_bytes};
+ghost use Rattle.std.specs.Cow.{cow_str_bytes};
+ghost use Rattle.std.specs.Prelude.{◌≡◌, ◌⊎◌, ◌++◌, IfErr, IfOk, OnErr, OnOk, string_bytes};
 ghost use Rattle.uv_report.specs.Diagnostic.{diagnostic_view};
 ghost use Rattle.uv_report.specs.Report.{begin_text, diagnostic_text, end_text, file_begin_text, file_end_text};
 ghost use Rattle.uv_report.specs.Report.{told_text};
+ghost use Rattle.uv_report.specs.declared.format.Format.TheVariants.{Checkstyle, Junit, Sarif};
 
 use crate::completion::Completion;
 use crate::diagnostic::Diagnostic;
 use crate::format::Format;
 use crate::formats::caret::push_caret;
-use crate::formats::checkstyle::{push_checkstyle, push_checkstyle_file};
+use crate::formats::checkstyle::{CHECKSTYLE_BEGIN, push_checkstyle, push_checkstyle_file};
 use crate::formats::github::push_github;
 use crate::formats::gitlab::push_gitlab;
 use crate::formats::gnu::push_gnu;
@@ -17,8 +19,10 @@ use crate::formats::json_lines::push_json;
 use crate::formats::junit::{JUNIT_BEGIN, junit_end, push_junit, push_junit_file};
 use crate::formats::rdjson::{RDJSON_BEGIN, push_rdjson};
 use crate::formats::sarif::{push_sarif, push_sarif_begin, sarif_end};
+use crate::look::Look;
 use crate::places::column::Columns;
 use std::alloc::{AllocError, Global};
+use std::borrow::CowStr;
 
 /// Pushes what a report begins with. In SARIF that says what columns count, if SARIF has a word for it. If an
 /// allocation fails, the text stays as it was.
@@ -35,28 +39,31 @@ pub fn push_begin(
     text.push_str(begin.as_str())
 }
 
-// What a report begins with.
-fn begin_of(alloc: Global, format: Format, columns: Columns) -> Result<String, AllocError>
-    ensures { IfOk result (λ begin. string_bytes begin ≡ begin_text format columns) }
+/// What a report begins with. It takes memory only in SARIF, which lists its rules there.
+pub fn begin_of(
+    alloc: Global,
+    format: Format,
+    columns: Columns,
+) -> Result<CowStr<'static>, AllocError>
+    ensures text { IfOk result (λ begin. cow_str_bytes begin ≡ begin_text format columns) }
+    ensures memory { IfErr result (λ fault. format ≡ Sarif) }
 {
-    let mut begin = String::new(alloc);
     match format {
-        Format::Sarif => push_sarif_begin(alloc, &mut begin, columns)?,
-        Format::Checkstyle => {
-            begin.push_str(
-                "<?xml version=\"1.0\" encoding=\"UTF-8\"?>\n<checkstyle version=\"4.3\">\n",
-            )?
+        Format::Sarif => {
+            let mut begin = String::new(alloc);
+            push_sarif_begin(alloc, &mut begin, columns)?;
+            Ok(CowStr::Owned(begin))
         }
-        Format::Junit => begin.push_str(JUNIT_BEGIN)?,
-        Format::Gitlab => begin.push_str("[\n")?,
-        Format::Rdjson => begin.push_str(RDJSON_BEGIN)?,
-        Format::Gnu | Format::Caret | Format::Json | Format::Github => {}
+        Format::Checkstyle => Ok(CowStr::Borrowed(CHECKSTYLE_BEGIN)),
+        Format::Junit => Ok(CowStr::Borrowed(JUNIT_BEGIN)),
+        Format::Gitlab => Ok(CowStr::Borrowed("[\n")),
+        Format::Rdjson => Ok(CowStr::Borrowed(RDJSON_BEGIN)),
+        Format::Gnu | Format::Caret | Format::Json | Format::Github => Ok(CowStr::Borrowed("")),
     }
-    Ok(begin)
 }
 
-/// Pushes what comes before the diagnostics of a file: a start tag in the formats of Checkstyle and JUnit, in the
-/// latter with a test that passes, and nothing in the others. If an allocation fails, the text stays as it was.
+/// Pushes what comes before the diagnostics of a file: a start tag in the formats of Checkstyle and JUnit, for JUnit
+/// with a test that passes, and nothing in the others. If an allocation fails, the text stays as it was.
 pub fn push_file_begin(
     alloc: Global,
     text: &mut String,
@@ -70,9 +77,10 @@ pub fn push_file_begin(
     text.push_str(begin.as_str())
 }
 
-// What comes before the diagnostics of a file.
-fn file_begin_of(alloc: Global, format: Format, file: &str) -> Result<String, AllocError>
-    ensures { IfOk result (λ begin. string_bytes begin ≡ file_begin_text format file.now) }
+/// What comes before the diagnostics of a file. It takes memory only in the two formats that write something there.
+pub fn file_begin_of(alloc: Global, format: Format, file: &str) -> Result<String, AllocError>
+    ensures text { IfOk result (λ begin. string_bytes begin ≡ file_begin_text format file.now) }
+    ensures memory { IfErr result (λ fault. (format ≡ Checkstyle) ⊎ (format ≡ Junit)) }
 {
     let mut begin = String::new(alloc);
     match format {
@@ -89,22 +97,23 @@ fn file_begin_of(alloc: Global, format: Format, file: &str) -> Result<String, Al
     Ok(begin)
 }
 
-/// Pushes a diagnostic. In SARIF and in the formats of GitLab and reviewdog a comma comes before each except the first
-/// one of the report. If an allocation fails, the text stays as it was. Several diagnostics on one text take no more
-/// time than the text and what is written, if they come in the order of their places, and the text is led to each place
-/// before.
+/// Pushes a diagnostic, which in the formats of compilers may have colours. In SARIF and in the formats of GitLab and
+/// reviewdog a comma comes before each except the first one of the report. If an allocation fails, the text stays as it
+/// was. Several diagnostics on one text take no more time than the text and what is written, if they come in the order
+/// of their places, and the text is led to each place before.
 pub fn push(
     alloc: Global,
     text: &mut String,
     format: Format,
+    look: Look,
     diagnostic: &Diagnostic<'_>,
     is_first: bool,
 ) -> Result<(), AllocError>
     ensures ok { OnOk result (string_bytes text.new
-        ≡ string_bytes text.old ++ diagnostic_text format is_first (diagnostic_view diagnostic.now)) }
+        ≡ string_bytes text.old ++ diagnostic_text format look is_first (diagnostic_view diagnostic.now)) }
     ensures err { OnErr result (string_bytes text.new ≡ string_bytes text.old) }
 {
-    let reported = reported(alloc, format, diagnostic, is_first)?;
+    let reported = reported(alloc, format, look, diagnostic, is_first)?;
     text.push_str(reported.as_str())
 }
 
@@ -112,11 +121,12 @@ pub fn push(
 fn reported(
     alloc: Global,
     format: Format,
+    look: Look,
     diagnostic: &Diagnostic<'_>,
     is_first: bool,
 ) -> Result<String, AllocError>
     ensures { IfOk result (λ text. string_bytes text
-        ≡ diagnostic_text format is_first (diagnostic_view diagnostic.now)) }
+        ≡ diagnostic_text format look is_first (diagnostic_view diagnostic.now)) }
 {
     let message = diagnostic.told(alloc)?;
     let told = Diagnostic {
@@ -125,7 +135,7 @@ fn reported(
     };
     // Room for most diagnostics: a text that grows piece by piece would often be moved.
     let mut text = String::with_capacity(alloc, 1_000)?;
-    push_told(alloc, &mut text, format, &told, is_first)?;
+    push_told(alloc, &mut text, format, look, &told, is_first)?;
     Ok(text)
 }
 
@@ -134,15 +144,16 @@ fn push_told(
     alloc: Global,
     text: &mut String,
     format: Format,
+    look: Look,
     found: &Diagnostic<'_>,
     is_first: bool,
 ) -> Result<(), AllocError>
     ensures { OnOk result (string_bytes text.new
-        ≡ string_bytes text.old ++ told_text format is_first (diagnostic_view found.now)) }
+        ≡ string_bytes text.old ++ told_text format look is_first (diagnostic_view found.now)) }
 {
     match format {
-        Format::Gnu => push_gnu(alloc, text, found),
-        Format::Caret => push_caret(alloc, text, found),
+        Format::Gnu => push_gnu(alloc, text, look, found),
+        Format::Caret => push_caret(alloc, text, look, found),
         Format::Json => push_json(alloc, text, found),
         Format::Github => push_github(alloc, text, found),
         Format::Sarif => push_sarif(alloc, text, found, is_first),
@@ -159,7 +170,14 @@ pub fn push_file_end(text: &mut String, format: Format) -> Result<(), AllocError
     ensures ok { OnOk result (string_bytes text.new ≡ string_bytes text.old ++ file_end_text format) }
     ensures err { OnErr result (string_bytes text.new ≡ string_bytes text.old) }
 {
-    text.push_str(match format {
+    text.push_str(file_end_of(format))
+}
+
+/// What comes after the diagnostics of a file. It takes no memory.
+pub fn file_end_of(format: Format) -> &'static str
+    ensures { result.now ≡ file_end_text format }
+{
+    match format {
         Format::Checkstyle => "</file>\n",
         Format::Junit => "</testsuite>\n",
         Format::Gnu
@@ -169,7 +187,7 @@ pub fn push_file_end(text: &mut String, format: Format) -> Result<(), AllocError
         | Format::Sarif
         | Format::Gitlab
         | Format::Rdjson => "",
-    })
+    }
 }
 
 /// What a report ends with, depending on how the run over its files has ended. It takes no memory, so that a report

@@ -6,7 +6,7 @@ use Rattle.uv_report.specs.Diagnostic.{DiagnosticView, FixView, carried_text}
 use Rattle.uv_report.specs.Json.{json_text, whole}
 use Rattle.uv_sentences.specs.Places.Window.{is_cut}
 
--- the object of a diagnostic, by its members' names; a text is escaped by JSON alone
+-- the object of a diagnostic, by its members' names; a text has only the escapes of JSON
 abbrev pub plain_value : DiagnosticView → Json
 plain_value found =
     object (member (codes "column") (whole found.region.column)

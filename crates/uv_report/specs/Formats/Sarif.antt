@@ -77,7 +77,7 @@ column_kind _ = []
 
 -- the tool up to its rules (section 3.19): its name and its version
 abbrev pub driver_begin : List ℕ
-driver_begin = codes "\"tool\":{\"driver\":{\"name\":\"urlcheck\",\"version\":\"0.4.0\",\"rules\":["
+driver_begin = codes "\"tool\":{\"driver\":{\"name\":\"urlcheck\",\"version\":\"0.5.0\",\"rules\":["
 
 -- what it begins with
 unfoldable pub sarif_begin : Columns → List ℕ
@@ -135,7 +135,7 @@ location_value uri region =
     (object (member (codes "artifactLocation") (artifact_value uri)
     (member (codes "region") (region_value region) no_members))) no_members)
 
--- where the rule is among those of the document; no member for one that isn't among them
+-- the index of the rule among the rules of the document; no member for one that isn't among them
 abbrev pub index_members : Option ℕ → Members
 index_members None = no_members
 index_members (Some index) = member (codes "ruleIndex") (whole index) no_members

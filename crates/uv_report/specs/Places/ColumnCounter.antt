@@ -16,7 +16,7 @@ pub record IsMark (columns : Columns) (start : ℕ) (text : List ℕ) (mark : Ma
   pub column : mark.column ≡ column_at columns start text mark.place
   pub rest : chars mark.rest.now ≡ drop mark.place (chars text)
 
--- the mark and its column are those of its place
+-- the mark and its column belong to its place
 pub record Tells (columns : Columns) (start : ℕ) (text : List ℕ) (place : ℕ) (mark : Mark) : Type 0 where
   pub is_mark : IsMark columns start text mark
   pub column : mark.column ≡ column_at columns start text place

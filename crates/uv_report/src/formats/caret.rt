@@ -1,16 +1,18 @@
 //! Diagnostics with the line that they are about, a caret below the place, and what to write in place of the line.
 ghost use Rattle.std.specs.Prelude.{◌≡◌, ◌++◌, OnOk, option_map, replicate, string_bytes, take};
 ghost use Rattle.std.specs.Str.{chars};
-ghost use Rattle.uv_sentences.specs.declared.escaping.escapes.Escapes.TheVariants.{Copied};
+ghost use Rattle.uv_sentences.specs.declared.escaping.escapes.Escapes.TheVariants.{Copied, Shown};
 ghost use Rattle.uv_sentences.specs.Escaping.Escapes.{escaped};
 ghost use Rattle.uv_report.specs.Diagnostic.{diagnostic_view, fix_view};
 ghost use Rattle.uv_sentences.specs.Places.Window.{window};
-ghost use Rattle.uv_report.specs.Formats.Caret.{below, caret_lines, caret_text, help_line, help_text, help_words};
-ghost use Rattle.uv_report.specs.Formats.Caret.{named_as};
+ghost use Rattle.uv_report.specs.Formats.Caret.{below, caret_lines, caret_text, help_rest, help_text, help_word};
+ghost use Rattle.uv_report.specs.Formats.Caret.{help_words, named_as};
 ghost use Rattle.uv_report.specs.Formats.Caret.{padding, shown_lines, shows_line, window_lines};
+ghost use Rattle.uv_report.specs.Look.{cyan, painted};
 
 use crate::diagnostic::{Diagnostic, Fix};
 use crate::formats::gnu::push_gnu;
+use crate::look::Look;
 use crate::places::column::shown_width;
 use std::alloc::{AllocError, Global};
 use uv_model::MendKind;
@@ -19,45 +21,54 @@ use uv_sentences::{
     push_shown as push_shown_text,
 };
 
-// What is before a mended text that is offered, and before one that isn't, by how it is to the refused one.
-const HELP: &str = "help: write ";
+// What is after `help:`, before a mended text that is offered, and after `note:`, before one that isn't, by how it is
+// to the refused one.
+const HELP: &str = " write ";
 
-const SAME_NOTE: &str = "note: the same URL, written validly, is ";
+const SAME_NOTE: &str = " the same URL, written validly, is ";
 
-const ESCAPED_NOTE: &str = "note: the same text, percent-encoded, is ";
+const ESCAPED_NOTE: &str = " the same text, percent-encoded, is ";
 
-const CHANGED_NOTE: &str = "note: a valid URL string that is near it is ";
+const CHANGED_NOTE: &str = " a valid URL string that is near it is ";
 
 // Spaces, as one text.
 const SPACES: &str =
     "                                                                                                ";
 
 /// Pushes the line of `gnu`; if a text is carried, what is shown of the line and the line with the caret; and if there
-/// is a mended text, `help: write TEXT`, or a note that names one that isn't offered.
+/// is a mended text, `help: write TEXT`, or a note that names one that isn't offered, unless the message says what to
+/// write.
 #[tactic(auto, unfolding(crate::specs::Formats::Caret::caret_text))]
 pub(crate) fn push_caret(
     alloc: Global,
     text: &mut String,
+    look: Look,
     found: &Diagnostic<'_>,
 ) -> Result<(), AllocError>
-    ensures { OnOk result (string_bytes text.new ≡ string_bytes text.old ++ caret_text (diagnostic_view found.now)) }
+    ensures { OnOk result (string_bytes text.new
+        ≡ string_bytes text.old ++ caret_text look (diagnostic_view found.now)) }
 {
-    push_gnu(alloc, text, found)?;
-    push_shown(alloc, text, found)?;
-    push_help(alloc, text, found.place, found.fix)?;
+    push_gnu(alloc, text, look, found)?;
+    push_shown(alloc, text, look, found)?;
+    push_help(alloc, text, look, found.place, found.fix)?;
     Ok(())
 }
 
 // Pushes what is shown of a line, and a caret below what the message names, if the wrong text is carried.
-fn push_shown(alloc: Global, text: &mut String, found: &Diagnostic<'_>) -> Result<(), AllocError>
+fn push_shown(
+    alloc: Global,
+    text: &mut String,
+    look: Look,
+    found: &Diagnostic<'_>,
+) -> Result<(), AllocError>
     ensures { OnOk result (string_bytes text.new
-        ≡ string_bytes text.old ++ shown_lines (diagnostic_view found.now)) }
+        ≡ string_bytes text.old ++ shown_lines look (diagnostic_view found.now)) }
 {
     if !shows_line(found.rule, found.text.as_str()) {
         return Ok(());
     }
     let named = named_place(found.message, found.text, found.place);
-    push_window(alloc, text, found.text, named)
+    push_window(alloc, text, look, found.text, named)
 }
 
 // Whether the wrong text is carried: always if it isn't empty, and if it is empty unless the line wasn't checked.
@@ -72,35 +83,51 @@ fn shows_line(rule: &str, line: &str) -> bool
 fn push_window(
     alloc: Global,
     text: &mut String,
+    look: Look,
     line: &SeenText<'_>,
     place: usize,
 ) -> Result<(), AllocError>
-    ensures { OnOk result (string_bytes text.new ≡ string_bytes text.old ++ window_lines line.now place) }
+    ensures { OnOk result (string_bytes text.new ≡ string_bytes text.old ++ window_lines look line.now place) }
 {
     if line.is_longer_than_window() {
         let shown = cut_out(alloc, line, place.saturating_sub(99))?;
-        push_lines(text, shown.as_str(), place.min(100))
+        push_lines(text, look, shown.as_str(), place.min(100))
     } else {
-        push_lines(text, line.as_str(), place)
+        push_lines(text, look, line.as_str(), place)
     }
 }
 
-// Pushes what to write in place of a line, whose report is about this place, if that is to be said.
+// Pushes what to write in place of a line, whose report is about this place. A text that isn't offered would mislead
+// if the message says what to write.
 fn push_help(
     alloc: Global,
     text: &mut String,
+    look: Look,
     place: usize,
     fix: Option<Fix<'_>>,
 ) -> Result<(), AllocError>
     ensures { OnOk result (string_bytes text.new
-        ≡ string_bytes text.old ++ help_text place (option_map fix_view fix.entry)) }
+        ≡ string_bytes text.old ++ help_text look place (option_map fix_view fix.entry)) }
 {
     match fix {
-        Some(fix) => {
+        Some(fix) if fix.is_offered || !fix.is_named => {
+            text.push_str(help_word(look, fix.is_offered))?;
             let words = help_words(fix.is_offered, fix.kind);
             push_help_line(alloc, text, words, place, fix.text)
         }
-        None => Ok(()),
+        _ => Ok(()),
+    }
+}
+
+// The word that a line on a mended text begins with.
+fn help_word(look: Look, offered: bool) -> &'static str
+    ensures { result.now ≡ painted look cyan (help_word offered) }
+{
+    match (look, offered) {
+        (Look::Plain, true) => "help:",
+        (Look::Plain, false) => "note:",
+        (Look::Coloured, true) => "\x1b[36mhelp:\x1b[0m",
+        (Look::Coloured, false) => "\x1b[36mnote:\x1b[0m",
     }
 }
 
@@ -123,7 +150,7 @@ fn named_as(kind: MendKind) -> &'static str
 }
 
 // Pushes these words, and what is shown of a mended text around a place.
-#[tactic(auto, unfolding(crate::specs::Formats::Caret::help_line))]
+#[tactic(auto, unfolding(crate::specs::Formats::Caret::help_rest))]
 fn push_help_line(
     alloc: Global,
     text: &mut String,
@@ -131,7 +158,7 @@ fn push_help_line(
     place: usize,
     mended: &str,
 ) -> Result<(), AllocError>
-    ensures { OnOk result (string_bytes text.new ≡ string_bytes text.old ++ help_line words.now place mended.now) }
+    ensures { OnOk result (string_bytes text.new ≡ string_bytes text.old ++ help_rest words.now place mended.now) }
 {
     text.push_str(words)?;
     push_part(alloc, text, &SeenText::new(mended), place)?;
@@ -158,14 +185,30 @@ fn push_part(
 }
 
 // Pushes a line, and a caret below one of its places.
-#[tactic(auto, unfolding(crate::specs::Formats::Caret::caret_lines))]
-fn push_lines(text: &mut String, line: &str, place: usize) -> Result<(), AllocError>
-    ensures { OnOk result (string_bytes text.new ≡ string_bytes text.old ++ caret_lines line.now place) }
+fn push_lines(text: &mut String, look: Look, line: &str, place: usize) -> Result<(), AllocError>
+    ensures { OnOk result (string_bytes text.new ≡ string_bytes text.old ++ caret_lines look line.now place) }
+{
+    match look {
+        Look::Plain => push_marked(text, line, "\n", place, "^\n"),
+        Look::Coloured => push_marked(text, line, "\n\x1b[1;31m", place, "^\x1b[0m\n"),
+    }
+}
+
+// Pushes a line, and what comes below its code points before a place, with these texts round that.
+fn push_marked(
+    text: &mut String,
+    line: &str,
+    before: &str,
+    place: usize,
+    after: &str,
+) -> Result<(), AllocError>
+    ensures { OnOk result (string_bytes text.new ≡ string_bytes text.old ++ (escaped Shown line.now
+        ++ (before.now ++ (padding (take place (chars line.now)) ++ after.now)))) }
 {
     push_shown_text(text, line)?;
-    text.push_str("\n")?;
+    text.push_str(before)?;
     push_padding(text, line, place)?;
-    text.push_str("^\n")?;
+    text.push_str(after)?;
     Ok(())
 }
 

@@ -7,6 +7,10 @@ use crate::diagnostic::Diagnostic;
 use std::alloc::{AllocError, Global};
 use uv_sentences::{Escapes, escaped, push_escaped};
 
+/// What the document begins with.
+pub(crate) const CHECKSTYLE_BEGIN: &str =
+    "<?xml version=\"1.0\" encoding=\"UTF-8\"?>\n<checkstyle version=\"4.3\">\n";
+
 /// Pushes the start tag of a file.
 #[tactic(auto, unfolding(crate::specs::Formats::Checkstyle::file_begin))]
 pub(crate) fn push_checkstyle_file(text: &mut String, file: &str) -> Result<(), AllocError>

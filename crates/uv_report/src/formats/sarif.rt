@@ -40,7 +40,7 @@ pub(crate) fn push_sarif_begin(
     )?;
     text.push_str("\"runs\":[{")?;
     text.push_str(column_kind(columns))?;
-    text.push_str("\"tool\":{\"driver\":{\"name\":\"urlcheck\",\"version\":\"0.4.0\",\"rules\":[")?;
+    text.push_str("\"tool\":{\"driver\":{\"name\":\"urlcheck\",\"version\":\"0.5.0\",\"rules\":[")?;
     push_rules(alloc, text)?;
     text.push_str("]}},\"results\":[\n")?;
     Ok(())
@@ -316,7 +316,8 @@ fn write_violation(
     Ok(())
 }
 
-// Writes the member of where a rule is among those of the document, if it is, and ends the result.
+// Writes the member with the index of a rule among the rules of the document, if it is one of them, and ends the
+// result.
 fn write_index(json: &mut JsonText, rule: &str) -> Result<(), AllocError>
     ensures { OnOk result (json.new ≡ json.old ++ members_tokens (spec.index_members (rule_index rule.now))) }
 {
@@ -350,7 +351,7 @@ fn write_region(json: &mut JsonText, name: &str, region: Region) -> Result<(), A
     }
 }
 
-// Writes the member of the fix that writes a mended text in place of what is in this region.
+// Writes the member with the fix, which puts a mended text in place of this region.
 fn write_fix<'t>(
     json: &mut JsonText,
     uri: &'t str,

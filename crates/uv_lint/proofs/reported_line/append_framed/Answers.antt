@@ -1,4 +1,4 @@
--- The diagnostic is alone in the room for one, and is appended.
+-- Only the diagnostic is in the room for one, and it is appended.
 use Rattle.std.proofs.Common.{◌++◌, ◌∙◌, ap}
 use Rattle.uv_lint.proofs.ReporterLemmas.{on_appended}
 use Rattle.uv_lint.proofs.reported_line.append_framed.Goals as goal

@@ -9,7 +9,7 @@ use Rattle.uv_lint.proofs.reported_line.say_framed.Goals as goal
 
 pub returns-in-Err-clause-fault : goal.returns-in-Err-clause-fault
 returns-in-Err-clause-fault g c =
-    let one = one_text c.args.setting.form c.args.setting.format c.args.is_first
+    let one = one_text c.args.setting.form c.args.setting.format c.args.setting.look c.args.is_first
     (diagnostic_view c.args.diagnostic.now) in
     left_none (IsNoneOr one) c.args.text.now.items c.append_framed.new.text.items
     (g.W.Sink.contents c.args.writer.now) (inl refl) c.in-Err.ensures.none
@@ -21,7 +21,7 @@ returns-in-Ok-clause-text g c =
 
 pub returns-in-Err-end_part-clause-fault : goal.returns-in-Err-end_part-clause-fault
 returns-in-Err-end_part-clause-fault g c =
-    let one = one_text c.args.setting.form c.args.setting.format c.args.is_first
+    let one = one_text c.args.setting.form c.args.setting.format c.args.setting.look c.args.is_first
     (diagnostic_view c.args.diagnostic.now) in (
       one,
       inr refl,

@@ -29,9 +29,9 @@ loop-violation-init g c =
         (
           [],
           tt {0},
-          subst (λ told. IsSaidBefore setting.form setting.format setting.columns (reported_view line) c.args.is_first
+          subst (λ told. IsSaidBefore setting.form setting.format setting.look setting.columns (reported_view line) c.args.is_first
               fix [] [] [] c.args.is_first told) (sym c.fix_in_place-fix.ensures)
-              (said_none setting.form setting.format setting.columns (reported_view line) c.args.is_first fix),
+              (said_none setting.form setting.format setting.look setting.columns (reported_view line) c.args.is_first fix),
         ),
       );
       quiet = refl;
@@ -57,7 +57,7 @@ loop-violation-preserved g c =
     let told = option_map fix_view c.loop-violation.fix in
     let message = string_bytes c.in-Ok.message in
     let fix = fix_on setting.columns reported (option_map mended_line_view c.args.mended.now) in
-    let one = one_text setting.form setting.format c.loop-violation.is_first
+    let one = one_text setting.form setting.format setting.look c.loop-violation.is_first
     (diagnostic_on setting.columns reported told violation message) in
     let old = g.W.Sink.contents c.args.writer.now in
     let new = g.W.Sink.contents c.say_violation.new.writer in
@@ -80,13 +80,13 @@ loop-violation-preserved g c =
             (passes_more (c.args.text.now.items ++ said.0) one old (g.W.Sink.contents c.loop-violation.writer) new
             c.loop-violation.text.items c.say_violation.new.text.items said.1
             (subst (λ found. Passes (c.loop-violation.text.items
-            ++ one_text setting.form setting.format c.loop-violation.is_first found)
+            ++ one_text setting.form setting.format setting.look c.loop-violation.is_first found)
             (g.W.Sink.contents c.loop-violation.writer) new c.say_violation.new.text.items) is
             c.in_default-say_violation.ensures.text)),
         (
           said.2.0 ++ message ∷ [],
           are_next violations i none said.2.0 message c.loop-violation-test.true said.2.1 c.in-Ok.ensures,
-          said_next setting.form setting.format setting.columns reported c.args.is_first c.loop-violation.is_first fix
+          said_next setting.form setting.format setting.look setting.columns reported c.args.is_first c.loop-violation.is_first fix
               told violations i none said.2.0 message said.0 c.loop-violation-test.true said.2.2,
         ),
       );
@@ -95,7 +95,7 @@ loop-violation-preserved g c =
       seen = c.go_to.ensures ∙ invariant.seen;
     }
 
--- if no memory was left for what is said of a violation, the diagnostics before it were said
+-- if no memory was left for the message on a violation, the diagnostics before it were said
 pub returns-in_default-clause-fault : goal.returns-in_default-clause-fault
 returns-in_default-clause-fault g c =
     let line = c.args.self.now in
@@ -112,7 +112,7 @@ returns-in_default-clause-fault g c =
         are_all violations i said.2.0 said.2.1,
         (
           i,
-          said_first setting.form setting.format setting.columns reported c.args.is_first fix (take i violations)
+          said_first setting.form setting.format setting.look setting.columns reported c.args.is_first fix (take i violations)
               said.2.0 others said.0 c.loop-violation.is_first (option_map fix_view c.loop-violation.fix) said.2.2,
         ),
       ),
@@ -134,7 +134,7 @@ returns-in-Err-clause-fault g c =
     let told = option_map fix_view c.loop-violation.fix in
     let message = string_bytes c.in-Ok.message in
     let fix = fix_on setting.columns reported (option_map mended_line_view c.args.mended.now) in
-    let one = one_text setting.form setting.format c.loop-violation.is_first
+    let one = one_text setting.form setting.format setting.look c.loop-violation.is_first
     (diagnostic_on setting.columns reported told violation message) in
     let is : diagnostic_in reported c.region.result told violation c.as_str.result.now
     ≡ diagnostic_on setting.columns reported told violation message =
@@ -148,7 +148,7 @@ returns-in-Err-clause-fault g c =
       c.end.ensures,
       c.as_str.ensures.value,
     ) refl in
-    let with_one = said_next setting.form setting.format setting.columns reported c.args.is_first
+    let with_one = said_next setting.form setting.format setting.look setting.columns reported c.args.is_first
     c.loop-violation.is_first fix told violations i none said.2.0 message said.0 c.loop-violation-test.true said.2.2 in
     let told_next = are_next violations i none said.2.0 message c.loop-violation-test.true said.2.1
     c.in-Ok.ensures in
@@ -179,10 +179,10 @@ returns-clause-text g c =
       subst (λ vs. AreMessages vs said.2.0) all said.2.1,
       subst (λ t. Passes (c.args.text.now.items ++ t) (g.W.Sink.contents c.args.writer.now)
           (g.W.Sink.contents c.loop-violation.writer) c.loop-violation.text.items)
-          (said_first setting.form setting.format setting.columns reported c.args.is_first fix (take i violations)
+          (said_first setting.form setting.format setting.look setting.columns reported c.args.is_first fix (take i violations)
           said.2.0 [] said.0 c.loop-violation.is_first (option_map fix_view c.loop-violation.fix) said.2.2
-          ∙ ap (λ ms. diagnostics_text setting.form setting.format setting.columns reported c.args.is_first fix
+          ∙ ap (λ ms. diagnostics_text setting.form setting.format setting.look setting.columns reported c.args.is_first fix
           (take i violations) ms) (append-nil said.2.0)
-          ∙ ap (λ vs. diagnostics_text setting.form setting.format setting.columns reported c.args.is_first fix
+          ∙ ap (λ vs. diagnostics_text setting.form setting.format setting.look setting.columns reported c.args.is_first fix
           vs said.2.0) all) said.1,
     )

@@ -1,4 +1,4 @@
--- The diagnostics so far were said: a beginning of them was written, and the rest waits. The columns are those of the
+-- The diagnostics so far were said: a beginning of them was written, and the rest waits. The columns belong to the
 -- text's places.
 use Rattle.std.proofs.Common.{◌≡◌, ◌++◌, ℕ, List, option_map, take}
 use Rattle.uv_lines.specs.Waiting.{Passes}
@@ -14,7 +14,7 @@ invariant-loop-violation g l = record {
   said : (said : List ℕ) × Passes (l.initial.text.items ++ said) (g.W.Sink.contents l.initial.writer)
       (g.W.Sink.contents l.writer) l.text.items
       × ((messages : List (List ℕ)) × AreMessages (take l.violation-index l.violations) messages
-      × IsSaidBefore l.setting.form l.setting.format l.setting.columns (reported_view l.self) l.is_first-2
+      × IsSaidBefore l.setting.form l.setting.format l.setting.look l.setting.columns (reported_view l.self) l.is_first-2
       (fix_on l.setting.columns (reported_view l.self) (option_map mended_line_view l.mended))
       (take l.violation-index l.violations) messages said l.is_first (option_map fix_view l.fix));
   quiet : g.W.Sink.failed l.writer ≡ g.W.Sink.failed l.initial.writer;

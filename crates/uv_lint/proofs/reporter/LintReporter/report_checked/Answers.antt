@@ -1,4 +1,4 @@
--- Nothing is found with a valid text, and so nothing is said of its line.
+-- Nothing is found with a valid text, and so its line isn't reported.
 use Rattle.std.proofs.Common.{[], chars, option_copied, rules}
 use Rattle.uv_grammar.specs.Verdict.{IsAccepted}
 use Rattle.uv_lint.proofs.LineViolationLemmas.{valid_violations}

@@ -1,4 +1,4 @@
--- Nothing is found with a line that isn't checked, and so nothing is said of it.
+-- Nothing is found with a line that isn't checked, and so it isn't reported.
 use Rattle.std.proofs.Common.{◌∙◌, [], ap, option_map, sym}
 use Rattle.uv_lines.specs.Line.{bytes_of}
 use Rattle.uv_lint.specs.Report.{checked_of}

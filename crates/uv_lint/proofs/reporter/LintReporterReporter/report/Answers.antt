@@ -1,4 +1,4 @@
--- What is said of a line, and what a fault leaves of it.
+-- The report on a line, and what a fault leaves of it.
 use Rattle.std.proofs.Common.{◌∙◌, Some, ap, option_map, sym}
 use Rattle.uv_lines.specs.Line.{bytes_of}
 use Rattle.uv_lint.proofs.ReporterLemmas.{adds_line, leaves_line}
