@@ -43,14 +43,16 @@
     ANSWERS(urlcheck_batch, urlcheck_check_many, build, const uint8_t *, size_t, const uint64_t *, size_t, uint32_t,   \
             const urlcheck_base *, urlcheck_bool, uint8_t *, size_t, uint8_t *, size_t, uint64_t *, size_t);           \
     ANSWERS(urlcheck_batch, urlcheck_resolve_many, build, const uint8_t *, size_t, const uint64_t *, size_t, uint32_t, \
-            uint8_t *, size_t, uint8_t *, size_t, uint64_t *, size_t, uint64_t *, size_t, uint8_t *, size_t);          \
+            const uint8_t *, size_t, urlcheck_bool, uint8_t *, size_t, uint8_t *, size_t, uint64_t *, size_t,          \
+            uint64_t *, size_t, uint8_t *, size_t);                                                                    \
     ANSWERS(urlcheck_line, urlcheck_next_refused, build, const uint8_t *, size_t, size_t, uint32_t);                   \
     ANSWERS(urlcheck_written, urlcheck_report_begin, build, uint32_t, uint32_t, uint8_t *, size_t);                    \
     ANSWERS(urlcheck_written, urlcheck_report_file_begin, build, uint32_t, const uint8_t *, size_t, uint8_t *,         \
             size_t);                                                                                                   \
-    ANSWERS(urlcheck_written, urlcheck_diagnostic, build, uint32_t, uint32_t, const urlcheck_reported_numbers *,       \
-            const uint8_t *, size_t, const uint8_t *, size_t, const uint8_t *, size_t, const uint8_t *, size_t,        \
-            const uint8_t *, size_t, const uint8_t *, size_t, const uint8_t *, size_t, uint8_t *, size_t);             \
+    ANSWERS(urlcheck_written, urlcheck_diagnostic, build, uint32_t, uint32_t, uint32_t,                                \
+            const urlcheck_reported_numbers *, const uint8_t *, size_t, const uint8_t *, size_t, const uint8_t *,      \
+            size_t, const uint8_t *, size_t, const uint8_t *, size_t, const uint8_t *, size_t, const uint8_t *,        \
+            size_t, uint8_t *, size_t);                                                                                \
     ANSWERS(urlcheck_written, urlcheck_report_file_end, build, uint32_t, uint8_t *, size_t);                           \
     ANSWERS(urlcheck_written, urlcheck_report_end, build, uint32_t, uint32_t, uint8_t *, size_t);                      \
     ANSWERS(urlcheck_written, urlcheck_message, build, const uint8_t *, size_t, uint32_t, const urlcheck_base *,       \
@@ -211,17 +213,19 @@ EXPORT void urlcheck_check_many_to(urlcheck_batch *answer, const uint8_t *texts,
 }
 
 EXPORT void urlcheck_resolve_many_to(urlcheck_batch *answer, const uint8_t *texts, size_t length,
-                                     const uint64_t *offsets, size_t count, uint32_t profile, uint8_t *verdicts,
-                                     uint8_t *rules, uint64_t *places, uint64_t *ends, uint8_t *out, size_t room) {
+                                     const uint64_t *offsets, size_t count, uint32_t profile, const uint8_t *base,
+                                     size_t base_length, uint8_t *verdicts, uint8_t *rules, uint64_t *places,
+                                     uint64_t *ends, uint8_t *out, size_t room) {
     static const uint64_t no_offsets[1];
     size_t rows = offsets ? count : 0;
-    if (lacks(texts, length) || lacks(offsets, count) || lacks(out, room)) {
+    if (lacks(texts, length) || lacks(offsets, count) || lacks(base, base_length) || lacks(out, room)) {
         *answer = null_batch;
         return;
     }
     ANSWER(urlcheck_resolve_many, read_from(texts), length, offsets ? offsets : no_offsets, rows + 1, profile,
-           written_to(verdicts), room_at(verdicts, rows), written_to(rules), room_at(rules, rows), counted_in(places),
-           room_at(places, rows), counted_in(ends), room_at(ends, rows + 1), written_to(out), room);
+           read_from(base), base_length, base != 0, written_to(verdicts), room_at(verdicts, rows), written_to(rules),
+           room_at(rules, rows), counted_in(places), room_at(places, rows), counted_in(ends), room_at(ends, rows + 1),
+           written_to(out), room);
 }
 
 EXPORT void urlcheck_next_refused_to(urlcheck_line *answer, const uint8_t *lines, size_t length, size_t from,
@@ -260,14 +264,14 @@ static int lacks_text(const urlcheck_reported *it) {
            lacks(it->text, it->text_length) || lacks(it->fix, it->fix_length);
 }
 
-EXPORT void urlcheck_diagnostic_to(urlcheck_written *answer, uint32_t format, uint32_t is_first,
+EXPORT void urlcheck_diagnostic_to(urlcheck_written *answer, uint32_t format, uint32_t is_coloured, uint32_t is_first,
                                    const urlcheck_reported *reported, uint8_t *out, size_t room) {
     const urlcheck_reported *it = reported;
     if (!it || lacks_text(it) || lacks(out, room)) {
         *answer = null_written;
         return;
     }
-    ANSWER(urlcheck_diagnostic, format, is_first, &it->numbers, read_from(it->file), it->file_length,
+    ANSWER(urlcheck_diagnostic, format, is_coloured, is_first, &it->numbers, read_from(it->file), it->file_length,
            read_from(it->rule), it->rule_length, read_from(it->uri), it->uri_length, read_from(it->message),
            it->message_length, read_from(it->within), it->within_length, read_from(it->text), it->text_length,
            read_from(it->fix), it->fix_length, written_to(out), room);

@@ -88,7 +88,7 @@ constexpr std::optional<profile> profile_named(std::string_view named) noexcept 
     return std::nullopt;
 }
 
-// The version of the library, such as "0.4.0", as a number: 10,000 times the first part, 100 times the second, and the third.
+// The version of the library, such as "0.5.0", as a number: 10,000 times the first part, 100 times the second, and the third.
 inline std::uint32_t version() noexcept { return urlcheck_version(); }
 
 // A rule that a text violates at a place.

@@ -5,8 +5,8 @@ package urlcheck
 
 // #cgo pkg-config: urlcheck
 // #include <urlcheck.h>
-// #if URLCHECK_VERSION / 100 != 4
-// #error "this package is for liburlcheck 0.4"
+// #if URLCHECK_VERSION / 100 != 5
+// #error "this package is for liburlcheck 0.5"
 // #endif
 import "C"
 
@@ -213,7 +213,7 @@ func fixedText(what uint32, rule Rule) string {
 	return kept.text
 }
 
-// Version gives the version of the library that answers, such as "0.4.0".
+// Version gives the version of the library that answers, such as "0.5.0".
 func Version() string {
 	number := int(C.urlcheck_version())
 	return fmt.Sprintf("%d.%d.%d", number/10000, number/100%100, number%100)
@@ -253,7 +253,7 @@ func (c Checker) CheckMany(texts []string) []error {
 	columns := columnsOf(len(texts))
 	batch := C.urlcheck_check_many((*C.uint8_t)(&bytes[0]), C.size_t(len(bytes)), &offsets[0], C.size_t(len(texts)),
 		C.uint32_t(c.profile), c.prepared(), &columns.verdicts[0], &columns.rules[0], &columns.places[0])
-	return columns.errors(texts, batch.outcome, c.profile)
+	return c.errors(texts, batch.outcome, &columns)
 }
 
 // ResolveMany gives the URL of each text, or the empty text and the error that Resolve gives.
@@ -261,46 +261,37 @@ func (c Checker) ResolveMany(texts []string) ([]string, []error) {
 	if len(texts) == 0 {
 		return nil, nil
 	}
-	if c.base == nil {
-		return c.resolveAlone(texts)
-	}
-	urls, errs := make([]string, len(texts)), make([]error, len(texts))
-	for row, text := range texts {
-		record, err := c.Resolve(text)
-		urls[row], errs[row] = record.text, err
-	}
-	return urls, errs
-}
-
-// resolveAlone resolves texts without a base: the library has no such call against one. There has to be a text.
-func (c Checker) resolveAlone(texts []string) ([]string, []error) {
 	bytes, offsets := joined(texts)
+	base, baseLength := c.baseBytes()
 	columns, ends := columnsOf(len(texts)), make([]C.uint64_t, len(offsets))
 	var batch C.urlcheck_batch
-	all := written(len(bytes)+4*len(texts), func(out *C.uint8_t, room C.size_t) C.size_t {
+	all := written(len(bytes)+len(texts)*(4+int(baseLength)), func(out *C.uint8_t, room C.size_t) C.size_t {
 		batch = C.urlcheck_resolve_many((*C.uint8_t)(&bytes[0]), C.size_t(len(bytes)), &offsets[0],
-			C.size_t(len(texts)), C.uint32_t(c.profile), &columns.verdicts[0], &columns.rules[0], &columns.places[0],
-			&ends[0], out, room)
+			C.size_t(len(texts)), C.uint32_t(c.profile), base, baseLength, &columns.verdicts[0], &columns.rules[0],
+			&columns.places[0], &ends[0], out, room)
 		return batch.length
 	})
 	urls := make([]string, len(texts))
 	for row := range urls {
 		urls[row] = all[ends[row]:ends[row+1]]
 	}
-	return urls, columns.errors(texts, batch.outcome, c.profile)
+	return urls, c.errors(texts, batch.outcome, &columns)
 }
 
 // errors gives the error on each text, or nil. If the whole call did nothing, each text has that error.
-func (c *columns) errors(texts []string, outcome C.uint32_t, profile Profile) []error {
+func (c Checker) errors(texts []string, outcome C.uint32_t, columns *columns) []error {
 	errs := make([]error, len(texts))
 	for row, text := range texts {
 		found := C.urlcheck_finding{verdict: outcome}
 		if outcome == C.URLCHECK_DONE {
-			found.verdict, found.rule = C.uint32_t(c.verdicts[row]), C.uint32_t(c.rules[row])
-			found.place = C.size_t(c.places[row])
+			found.verdict, found.rule = C.uint32_t(columns.verdicts[row]), C.uint32_t(columns.rules[row])
+			found.place = C.size_t(columns.places[row])
+			if found.verdict == C.URLCHECK_BASE_REFUSED || found.verdict == C.URLCHECK_BASE_NO_UTF8 {
+				text = c.base.text
+			}
 			found.byte_place = bytePlace(text, found.place)
 		}
-		errs[row] = errorOf(&found, profile)
+		errs[row] = errorOf(&found, c.profile)
 	}
 	return errs
 }

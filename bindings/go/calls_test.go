@@ -30,7 +30,7 @@ func against(t *testing.T, text string, profile Profile) Checker {
 }
 
 func TestVersion(t *testing.T) {
-	if !strings.HasPrefix(Version(), "0.4.") {
+	if !strings.HasPrefix(Version(), "0.5.") {
 		t.Errorf("the library has the version %s", Version())
 	}
 }
@@ -201,7 +201,9 @@ func TestViolations(t *testing.T) {
 
 func TestMany(t *testing.T) {
 	texts := []string{"http://h/", "", "x y", "http://h/\u00e9\U0001f600^", "//g/a"}
-	for _, checker := range []Checker{{}, against(t, "http://h/a/b", Wide)} {
+	refused, _ := Against("http://h/\u00e9 b", Standard)
+	unread, _ := Against("\u00e9\xff", Standard)
+	for _, checker := range []Checker{{}, against(t, "http://h/a/b", Wide), refused, unread} {
 		errs := checker.CheckMany(texts)
 		urls, resolving := checker.ResolveMany(texts)
 		for row, text := range texts {

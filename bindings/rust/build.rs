@@ -6,7 +6,7 @@ use std::path::Path;
 use std::process::Command;
 
 /// The versions of the library whose header is the one that this crate was written for.
-const VERSIONS: &str = "urlcheck >= 0.4.0 urlcheck < 0.5.0";
+const VERSIONS: &str = "urlcheck >= 0.5.0 urlcheck < 0.6.0";
 
 fn main() {
     println!("cargo:rerun-if-changed=build.rs");
@@ -48,7 +48,7 @@ fn link_installed() -> Result<(), String> {
     let output = found.map_err(|error| format!("URLCHECK_LIB_DIR isn't set, and pkg-config can't be run: {error}"))?;
     if !output.status.success() {
         let reason = String::from_utf8_lossy(&output.stderr).into_owned();
-        return Err(format!("URLCHECK_LIB_DIR isn't set, and pkg-config has no liburlcheck 0.4: {reason}"));
+        return Err(format!("URLCHECK_LIB_DIR isn't set, and pkg-config has no liburlcheck 0.5: {reason}"));
     }
     for word in String::from_utf8_lossy(&output.stdout).split_whitespace() {
         if let Some(folder) = word.strip_prefix("-L") {

@@ -334,7 +334,9 @@ export interface Resolved {
 /** The parts of a record, as its text has them. */
 export interface UrlRecord {
   scheme: string
+  /** The host, or null without `//`, as in `mailto:a`; `empty` is a host between `//` and `/`, as in `file:///a`. */
   host: { kind: 'domain' | 'ipv4' | 'ipv6' | 'opaque' | 'empty'; text: string } | null
+  /** The port, or null if there is none or it is the scheme's own. */
   port: string | null
   /** The path, or null if it is opaque. */
   segments: string[] | null

@@ -67,15 +67,6 @@ fi
 example "$top/bindings/web/README.md" "$room/user"
 guide=$top/docs/guides/javascript.md
 example "$guide" "$room/user"
-# The guide's check of lists, as a build anywhere runs it.
-block_of "$guide" 2 >"$room/user/check-links.mjs"
-printf 'http://h/\n\nhttp://h/a b\nhttp://x_y/\n' >"$room/user/links.txt"
-ended=0
-(cd "$room/user" && node check-links.mjs links.txt) >"$room/said" 2>&1 || ended=$?
-(cd "$room/user" && "$program" lint --quiet links.txt) >"$room/wanted" || true
-diff "$room/wanted" "$room/said" && [ $ended = 1 ] || { echo 'FAILED: the check of lists in docs/guides/javascript.md'; exit 1; }
-echo http://h/ >"$room/user/links.txt"
-(cd "$room/user" && node check-links.mjs links.txt) | cmp - /dev/null
 tar -C "$room" -xzf "$room"/packed/urlcheck-page-*.tar.gz
 diff -r --exclude='program.*' "$folder" "$room"/urlcheck-page-* || { echo 'FAILED: the page is packed otherwise than it was built'; exit 1; }
 

@@ -66,16 +66,29 @@ gcc -std=c99 "${strict[@]}" "${sanitized[@]}" -I "$include" calls.c "$archive" -
 gcc -std=c99 "${strict[@]}" "${sanitized[@]}" -I "$include" refusals.c "$archive" -o "$room/refusals"
 "$room/refusals"
 formats=(gnu caret json github sarif checkstyle junit gitlab rdjson) units=(code-points bytes utf16 screen) reports=0
+whens=(never always)
 for format in "${!formats[@]}"; do
     for unit in "${!units[@]}"; do
         case ${formats[format]}-${units[unit]} in sarif-bytes | sarif-screen | rdjson-[!b]*) continue ;; esac
-        "$program" lint --quiet --format "${formats[format]}" --columns "${units[unit]}" "$room/lines" >"$room/wanted" ||
-            [ $? = 1 ]
-        "$room/lint" "$room/lines" "$room/lines" "$format" "$unit" | cmp - "$room/wanted"
-        reports=$((reports + 1))
+        for when in "${!whens[@]}"; do
+            "$program" lint --quiet --format "${formats[format]}" --columns "${units[unit]}" --color "${whens[when]}" \
+                "$room/lines" >"$room/wanted" || [ $? = 1 ]
+            "$room/lint" "$room/lines" "$room/lines" "$format" "$unit" "$when" | cmp - "$room/wanted"
+            reports=$((reports + 1))
+        done
     done
 done
 echo "library: $reports reports as \`lint\` writes them, by the calls of the library"
+
+# Reports on a document have colours where \`lint\` has them, also if its name looks like a part of a report.
+name='a: error: b.html'
+printf '<a href="%s">\n' 'http://h/a b' http://0x7f.1/ 'x:1:1: error: y [z]' https://https//h/ >"$room/$name"
+for format in gnu caret; do
+    (cd "$room" && python3 -m urlcheck.documents --quiet --list "$name" |
+        "$program" lint --quiet --located --color always --format $format - >wanted) || [ $? = 1 ]
+    (cd "$room" && python3 -m urlcheck.documents --quiet --color always --format $format "$name" || [ $? = 1 ]) |
+        cmp - "$room/wanted"
+done
 
 # answering WANTED EXPORTS [COMMAND..] : of the two builds that one answers by these exports, where the command runs them
 answering() {

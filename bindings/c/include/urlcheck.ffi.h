@@ -226,14 +226,15 @@ void urlcheck_check_many_to(urlcheck_batch *answer, const uint8_t *texts, size_t
                             size_t count, uint32_t profile, const urlcheck_base *base, uint8_t *verdicts,
                             uint8_t *rules, uint64_t *places);
 void urlcheck_resolve_many_to(urlcheck_batch *answer, const uint8_t *texts, size_t length, const uint64_t *offsets,
-                              size_t count, uint32_t profile, uint8_t *verdicts, uint8_t *rules, uint64_t *places,
-                              uint64_t *ends, uint8_t *out, size_t room);
+                              size_t count, uint32_t profile, const uint8_t *base, size_t base_length,
+                              uint8_t *verdicts, uint8_t *rules, uint64_t *places, uint64_t *ends, uint8_t *out,
+                              size_t room);
 void urlcheck_next_refused_to(urlcheck_line *answer, const uint8_t *lines, size_t length, size_t from,
                               uint32_t profile);
 void urlcheck_report_begin_to(urlcheck_written *answer, uint32_t format, uint32_t unit, uint8_t *out, size_t room);
 void urlcheck_report_file_begin_to(urlcheck_written *answer, uint32_t format, const uint8_t *file, size_t length,
                                    uint8_t *out, size_t room);
-void urlcheck_diagnostic_to(urlcheck_written *answer, uint32_t format, uint32_t is_first,
+void urlcheck_diagnostic_to(urlcheck_written *answer, uint32_t format, uint32_t is_coloured, uint32_t is_first,
                             const urlcheck_reported *reported, uint8_t *out, size_t room);
 void urlcheck_report_file_end_to(urlcheck_written *answer, uint32_t format, uint8_t *out, size_t room);
 void urlcheck_report_end_to(urlcheck_written *answer, uint32_t format, uint32_t completion, uint8_t *out, size_t room);

@@ -11,8 +11,8 @@
  * A null pointer stands for no bytes if its length or room is 0. Otherwise the call answers URLCHECK_NULL, and neither
  * reads nor writes anything.
  *
- * There is no setup, no state and nothing to free: each call frees all memory that it took, and keeps no pointer. A base for many texts is prepared once, as a value without a pointer. Any number of threads may call at
- * once.
+ * There is no setup, no state and nothing to free: each call frees all memory that it took, and keeps no pointer. A base
+ * for many texts is prepared once, as a value without a pointer. Any number of threads may call at once.
  *
  * A place counts from 0, in code points or in bytes. A profile is a number: see urlcheck_profile.
  * For C89 and later, and C++98 and later, if the compiler has <stdint.h>. urlcheck.ffi.h has only the declarations, for
@@ -25,7 +25,7 @@
 #include <stdint.h>
 
 /* The version of this header: 10000 times its first number, 100 times its second, and its third. */
-#define URLCHECK_VERSION 400
+#define URLCHECK_VERSION 500
 
 /* A truth value, of one byte: 0 or 1. */
 #if defined(__cplusplus)
@@ -379,16 +379,20 @@ void urlcheck_check_many_to(urlcheck_batch *answer, const uint8_t *texts, size_t
                             uint8_t *rules, uint64_t *places);
 
 /*
- * Resolves many texts without a base under a profile. Texts and columns are as for urlcheck_check_many, with what
- * urlcheck_resolve answers. The texts of the records are one after the other at the start of `out`: the record of text i is
- * from ends[i] to ends[i + 1], and is empty if the verdict isn't URLCHECK_VALID. So `ends` has `count` + 1 elements, or
- * is null. The answer has the length of all of them. If `room` is less, `out` stays as it is and everything else is
- * written, so a second call with enough room writes them. If malloc gave no memory for a record, the verdict is
- * URLCHECK_MEMORY. If the outcome isn't URLCHECK_DONE, nothing is written.
+ * Resolves many texts under a profile, with the bytes of a base as for urlcheck_resolve, which are read once for all of
+ * them. Texts and columns are as for urlcheck_check_many, with what urlcheck_resolve answers for text i and the base: if
+ * the base is refused, each text that is UTF-8 has the base's verdict, rule and place.
+ *
+ * The texts of the records are one after the other at the start of `out`: the record of text i is from ends[i] to
+ * ends[i + 1], and is empty if the verdict isn't URLCHECK_VALID. So `ends` has `count` + 1 elements, or is null. The
+ * answer has the length of all of them. If `room` is less, `out` stays as it is and everything else is written, so a
+ * second call with enough room writes them. If malloc gave no memory for a record, the verdict is URLCHECK_MEMORY. If
+ * the outcome isn't URLCHECK_DONE, nothing is written.
  */
 void urlcheck_resolve_many_to(urlcheck_batch *answer, const uint8_t *texts, size_t length, const uint64_t *offsets,
-                              size_t count, uint32_t profile, uint8_t *verdicts, uint8_t *rules, uint64_t *places,
-                              uint64_t *ends, uint8_t *out, size_t room);
+                              size_t count, uint32_t profile, const uint8_t *base, size_t base_length,
+                              uint8_t *verdicts, uint8_t *rules, uint64_t *places, uint64_t *ends, uint8_t *out,
+                              size_t room);
 
 /*
  * Checks the lines of a buffer without a base under a profile, from the byte `from` on, up to the first that isn't
@@ -411,15 +415,18 @@ void urlcheck_report_file_begin_to(urlcheck_written *answer, uint32_t format, co
                                    uint8_t *out, size_t room);
 
 /*
- * A diagnostic of the report. `is_first` is 1 if it is the first one, otherwise 0. There is none if no format has the
+ * A diagnostic of the report. `is_coloured` is 1 if it is to have the colours of a terminal, as only `gnu` and `caret`
+ * have them, otherwise 0. `is_first` is 1 if it is the first one, otherwise 0. There is none if no format has the
  * number (URLCHECK_NO_FORMAT); if the text isn't UTF-8 (URLCHECK_NO_UTF8), or the place is after its end
  * (URLCHECK_NO_PLACE); if the file's name isn't UTF-8 (URLCHECK_FILE_NO_UTF8), or another text except the fix
  * (URLCHECK_REPORTED_NO_UTF8); if a line or a column is out of range, or a region ends before it begins
  * (URLCHECK_NO_COLUMN); if no kind has the number (URLCHECK_NO_KIND), or the fix isn't UTF-8
  * (URLCHECK_MENDED_NO_UTF8). SARIF and rdjson write an edit, so they leave out a fix that isn't offered or has no
- * region. Formats without mended texts (urlcheck_shows_mended) leave out every fix.
+ * region. `caret` leaves out one that isn't offered if the text has two schemes or a link after a space, since
+ * urlcheck_message then says which part to write. Formats without mended texts (urlcheck_shows_mended) leave out every
+ * fix.
  */
-void urlcheck_diagnostic_to(urlcheck_written *answer, uint32_t format, uint32_t is_first,
+void urlcheck_diagnostic_to(urlcheck_written *answer, uint32_t format, uint32_t is_coloured, uint32_t is_first,
                             const urlcheck_reported *reported, uint8_t *out, size_t room);
 
 void urlcheck_report_file_end_to(urlcheck_written *answer, uint32_t format, uint8_t *out, size_t room);
@@ -517,10 +524,12 @@ URLCHECK_INLINE urlcheck_batch urlcheck_check_many(const uint8_t *texts, size_t 
 }
 
 URLCHECK_INLINE urlcheck_batch urlcheck_resolve_many(const uint8_t *texts, size_t length, const uint64_t *offsets,
-                                                     size_t count, uint32_t profile, uint8_t *verdicts, uint8_t *rules,
+                                                     size_t count, uint32_t profile, const uint8_t *base,
+                                                     size_t base_length, uint8_t *verdicts, uint8_t *rules,
                                                      uint64_t *places, uint64_t *ends, uint8_t *out, size_t room) {
     urlcheck_batch answer;
-    urlcheck_resolve_many_to(&answer, texts, length, offsets, count, profile, verdicts, rules, places, ends, out, room);
+    urlcheck_resolve_many_to(&answer, texts, length, offsets, count, profile, base, base_length, verdicts, rules, places,
+                             ends, out, room);
     return answer;
 }
 
@@ -544,10 +553,10 @@ URLCHECK_INLINE urlcheck_written urlcheck_report_file_begin(uint32_t format, con
     return answer;
 }
 
-URLCHECK_INLINE urlcheck_written urlcheck_diagnostic(uint32_t format, uint32_t is_first,
+URLCHECK_INLINE urlcheck_written urlcheck_diagnostic(uint32_t format, uint32_t is_coloured, uint32_t is_first,
                                                      const urlcheck_reported *reported, uint8_t *out, size_t room) {
     urlcheck_written answer;
-    urlcheck_diagnostic_to(&answer, format, is_first, reported, out, room);
+    urlcheck_diagnostic_to(&answer, format, is_coloured, is_first, reported, out, room);
     return answer;
 }
 

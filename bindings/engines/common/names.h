@@ -39,7 +39,7 @@ static inline const char *kind_name(uint32_t kind) {
     return names[kind <= URLCHECK_CHANGED ? kind : 0];
 }
 
-/* How a mended text is named that isn't offered in a url's place. */
+/* The words before a mended text that isn't offered in place of a url. */
 static inline const char *kind_phrase(uint32_t kind) {
     if (kind == URLCHECK_SAME) return "the same URL, written validly, is: ";
     if (kind == URLCHECK_ESCAPED) return "the same text, percent-encoded, is: ";

@@ -227,20 +227,31 @@ static void release_array(struct ArrowArray *array) {
     array->release = NULL;
 }
 
-/* What Python calls for a capsule that nobody has: one that no reader took over is released here. */
-static void drop_schema(PyObject *capsule) {
-    struct ArrowSchema *schema = PyCapsule_GetPointer(capsule, "arrow_schema");
+/* Releases a schema that no reader took over, and gives back its memory. An error that is on its way stays, since what is
+ * called may run Python. */
+static void free_schema(struct ArrowSchema *schema) {
+    PyObject *error, *value, *trace;
 
+    PyErr_Fetch(&error, &value, &trace);
     if (schema && schema->release) schema->release(schema);
     free(schema);
+    PyErr_Restore(error, value, trace);
 }
 
-static void drop_array(PyObject *capsule) {
-    struct ArrowArray *array = PyCapsule_GetPointer(capsule, "arrow_array");
+/* The same of an array. */
+static void free_array(struct ArrowArray *array) {
+    PyObject *error, *value, *trace;
 
+    PyErr_Fetch(&error, &value, &trace);
     if (array && array->release) array->release(array);
     free(array);
+    PyErr_Restore(error, value, trace);
 }
+
+/* What Python calls for a capsule that nobody has. */
+static void drop_schema(PyObject *capsule) { free_schema(PyCapsule_GetPointer(capsule, "arrow_schema")); }
+
+static void drop_array(PyObject *capsule) { free_array(PyCapsule_GetPointer(capsule, "arrow_array")); }
 
 /* The format as a text that is in the program. */
 static const char *format_of(const char *given) {
@@ -305,10 +316,8 @@ PyObject *native_export(PyObject *module, PyObject *args) {
         array_capsule = PyCapsule_New(array, "arrow_array", drop_array);
         if (schema_capsule && array_capsule) answer = PyTuple_Pack(2, schema_capsule, array_capsule);
     }
-    if (!schema_capsule && schema && schema->release) schema->release(schema);
-    if (!schema_capsule) free(schema);
-    if (!array_capsule && array && array->release) array->release(array);
-    if (!array_capsule) free(array);
+    if (!schema_capsule) free_schema(schema);
+    if (!array_capsule) free_array(array);
     Py_XDECREF(schema_capsule);
     Py_XDECREF(array_capsule);
     return answer;
@@ -346,10 +355,7 @@ static PyObject *next_array(struct ArrowArrayStream *stream) {
         return Py_None;
     }
     capsule = PyCapsule_New(array, "arrow_array", drop_array);
-    if (!capsule) {
-        array->release(array);
-        free(array);
-    }
+    if (!capsule) free_array(array);
     return capsule;
 }
 
@@ -365,10 +371,7 @@ static PyObject *schema_of(struct ArrowArrayStream *stream) {
         return NULL;
     }
     capsule = PyCapsule_New(schema, "arrow_schema", drop_schema);
-    if (!capsule) {
-        if (schema->release) schema->release(schema);
-        free(schema);
-    }
+    if (!capsule) free_schema(schema);
     return capsule;
 }
 

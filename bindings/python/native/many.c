@@ -73,19 +73,19 @@ static int make_room(makings *out, size_t more) {
     return 1;
 }
 
-/* Appends what is made of one text, if one is made: its verdict tells whether. A valid text is mended by itself. */
-static urlcheck_finding append_made(const uint8_t *text, size_t length, const request *request, int mends, makings *out,
-                                    uint8_t *mark) {
+/* Appends what is to be written in place of one text, if there is something: its verdict tells. A valid text stays. */
+static urlcheck_finding append_mended(const uint8_t *text, size_t length, const request *request, makings *out,
+                                      uint8_t *mark) {
     const urlcheck_finding no_memory = {URLCHECK_MEMORY, 0, 0, 0};
     urlcheck_mended made;
 
     if (!make_room(out, length + 64)) return no_memory;
-    made = make_one(text, length, request, mends, out->data + out->length, out->room - out->length);
+    made = make_one(text, length, request, 1, out->data + out->length, out->room - out->length);
     if (made.length > out->room - out->length) {
         if (!make_room(out, made.length)) return no_memory;
-        made = make_one(text, length, request, mends, out->data + out->length, out->room - out->length);
+        made = make_one(text, length, request, 1, out->data + out->length, out->room - out->length);
     }
-    if (mends && made.found.verdict == URLCHECK_VALID) {
+    if (made.found.verdict == URLCHECK_VALID) {
         if (length) memcpy(out->data + out->length, text, length);
         made.length = length;
     }
@@ -94,23 +94,53 @@ static urlcheck_finding append_made(const uint8_t *text, size_t length, const re
     return made.found;
 }
 
-/* What is made of text i, if it isn't missing: its verdict tells. */
-static urlcheck_finding make_at(const texts *texts, size_t at, const request *request, int mends, makings *out) {
+/* What is to be written in place of text i, if it isn't missing: its verdict tells. */
+static urlcheck_finding mend_at(const texts *texts, size_t at, const request *request, makings *out) {
     const urlcheck_finding missing = {MISSING, 0, 0, 0}, no_offsets = {URLCHECK_NO_OFFSETS, 0, 0, 0};
     int64_t from = texts->offsets[at], to = texts->offsets[at + 1];
 
     out->marks[at] = 0;
     if (from < 0 || to < from || (size_t)to > end_of(texts)) return no_offsets;
     if (is_missing_at(texts, at)) return missing;
-    return append_made(texts->data ? texts->data + from : NULL, (size_t)(to - from), request, mends, out,
-                       &out->marks[at]);
+    return append_mended(texts->data ? texts->data + from : NULL, (size_t)(to - from), request, out, &out->marks[at]);
+}
+
+/* The URLs of the texts by one call, which reads the base once. Their verdicts come in place of the marks. */
+static urlcheck_batch resolve_all(const texts *texts, const request *request, makings *out) {
+    return urlcheck_resolve_many(texts->data, end_of(texts), (const uint64_t *)texts->offsets, texts->count,
+                                 request->profile, request->base_data, request->base_length, out->marks, NULL, NULL,
+                                 (uint64_t *)out->offsets, out->data, out->room);
+}
+
+/*
+ * Writes the URLs of the texts, and in place of each mark whether the text has a URL. Returns how many texts there are,
+ * or the place of the one that ends the call, and in `why` for what.
+ */
+static size_t resolve_texts(const texts *texts, const request *request, makings *out, urlcheck_finding *why) {
+    urlcheck_batch batch;
+
+    /* (what most URLs need; if they need more, the call is made once more) */
+    make_room(out, end_of(texts) + texts->count * (request->base_length + 4));
+    batch = resolve_all(texts, request, out);
+    if (batch.length > out->room && make_room(out, batch.length)) batch = resolve_all(texts, request, out);
+    why->verdict = batch.length > out->room ? URLCHECK_MEMORY : batch.outcome;
+    if (why->verdict != URLCHECK_DONE) return batch.row;
+    for (size_t at = 0; at < texts->count; at++) {
+        why->verdict = out->marks[at];
+        if (is_missing_at(texts, at)) why->verdict = MISSING;
+        if (why->verdict > URLCHECK_NO_UTF8 && why->verdict != MISSING) return at;
+        out->marks[at] = why->verdict == URLCHECK_VALID;
+    }
+    out->length = batch.length;
+    return texts->count;
 }
 
 size_t make_texts(const texts *texts, const request *request, int mends, makings *out, urlcheck_finding *why) {
     out->length = 0;
     out->offsets[0] = 0;
+    if (!mends && texts->count > 0) return resolve_texts(texts, request, out, why);
     for (size_t at = 0; at < texts->count; at++) {
-        *why = make_at(texts, at, request, mends, out);
+        *why = mend_at(texts, at, request, out);
         if (why->verdict > URLCHECK_NO_UTF8 && why->verdict != URLCHECK_MENDED && why->verdict != MISSING) return at;
         out->offsets[at + 1] = (int64_t)out->length;
     }

@@ -45,17 +45,18 @@ typedef struct request {
     uint32_t profile;
 } request;
 
-/* The arguments (text, base, profile) of a call, of which the last two may be null, or false and an error. */
-int read_arguments(PyObject *args, PyObject *named, const char *format, PyObject *arguments[3]);
-
 /* Reads a base and a profile, either of which may be null, into a request of zeros: false and an error if it can't. */
 int read_setting(state *state, PyObject *base, PyObject *profile, request *request);
 
 /* Reads a base and a profile as read_setting does, and checks the base: false and an error if it isn't valid. */
 int read_valid_setting(state *state, PyObject *base, PyObject *profile, request *request);
 
-/* Reads the arguments of a call into a request of zeros: false and an error if one of them isn't right. */
+/* Reads a text, a base and a profile, of which the last two may be null, into a request of zeros: false and an error if
+ * one of them isn't right. */
 int read_request(state *state, PyObject *arguments[3], request *request);
+
+/* Reads these as the arguments of a call, which may be named. */
+int read_arguments(state *state, PyObject *args, PyObject *named, const char *format, request *request);
 
 void drop_request(request *request);
 

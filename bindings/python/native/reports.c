@@ -7,11 +7,14 @@
  * lock. */
 enum { SHORT = 4096, LONG = 16384 };
 
+/* The calls of the library that write. */
+typedef enum call { REPORT_BEGIN, FILE_BEGIN, DIAGNOSTIC, FILE_END, REPORT_END, MESSAGE } call;
+
 /* What is to be written: a call with all but where it writes. (PyArg_ParseTuple writes a text as a pointer to char and a
  * Py_ssize_t, which are laid out as its pointer and its length here.) */
 typedef struct writing {
-    urlcheck_written (*call)(const struct writing *writing, uint8_t *out, size_t room);
-    uint32_t format, unit, completion, is_first, profile, wording, rule;
+    call call;
+    uint32_t format, unit, completion, is_coloured, is_first, profile, wording, rule;
     uint64_t place;
     const uint8_t *text;
     size_t length;
@@ -19,30 +22,19 @@ typedef struct writing {
     urlcheck_reported reported;
 } writing;
 
-/* The calls of the library, each with what it takes of a writing. */
-static urlcheck_written write_begin(const writing *writing, uint8_t *out, size_t room) {
-    return urlcheck_report_begin(writing->format, writing->unit, out, room);
-}
-
-static urlcheck_written write_file_begin(const writing *writing, uint8_t *out, size_t room) {
-    return urlcheck_report_file_begin(writing->format, writing->text, writing->length, out, room);
-}
-
-static urlcheck_written write_diagnostic(const writing *writing, uint8_t *out, size_t room) {
-    return urlcheck_diagnostic(writing->format, writing->is_first, &writing->reported, out, room);
-}
-
-static urlcheck_written write_file_end(const writing *writing, uint8_t *out, size_t room) {
-    return urlcheck_report_file_end(writing->format, out, room);
-}
-
-static urlcheck_written write_end(const writing *writing, uint8_t *out, size_t room) {
-    return urlcheck_report_end(writing->format, writing->completion, out, room);
-}
-
-static urlcheck_written write_message(const writing *writing, uint8_t *out, size_t room) {
-    return urlcheck_message(writing->text, writing->length, writing->profile, writing->base, writing->wording,
-                            writing->rule, (size_t)writing->place, out, room);
+/* Makes the call, with what it takes of a writing. */
+static urlcheck_written called(const writing *it, uint8_t *out, size_t room) {
+    switch (it->call) {
+        case REPORT_BEGIN: return urlcheck_report_begin(it->format, it->unit, out, room);
+        case FILE_BEGIN: return urlcheck_report_file_begin(it->format, it->text, it->length, out, room);
+        case DIAGNOSTIC:
+            return urlcheck_diagnostic(it->format, it->is_coloured, it->is_first, &it->reported, out, room);
+        case FILE_END: return urlcheck_report_file_end(it->format, out, room);
+        case REPORT_END: return urlcheck_report_end(it->format, it->completion, out, room);
+        default:
+            return urlcheck_message(it->text, it->length, it->profile, it->base, it->wording, it->rule,
+                                    (size_t)it->place, out, room);
+    }
 }
 
 /* False, with an error, if a call gave nothing. */
@@ -70,7 +62,7 @@ static int is_given(urlcheck_finding found) {
 /* Writes it once, if the text is long without the interpreter's lock. */
 static urlcheck_written written_once(const writing *writing, uint8_t *out, size_t room) {
     PyThreadState *thread = writing->length < LONG ? NULL : PyEval_SaveThread();
-    urlcheck_written written = writing->call(writing, out, room);
+    urlcheck_written written = called(writing, out, room);
 
     if (thread) PyEval_RestoreThread(thread);
     return written;
@@ -106,7 +98,7 @@ static int read_number(PyObject *given, void *number) {
 
 /* report_begin(format, unit) */
 PyObject *native_report_begin(PyObject *module, PyObject *args) {
-    writing writing = {.call = write_begin};
+    writing writing = {.call = REPORT_BEGIN};
 
     (void)module;
     return PyArg_ParseTuple(args, "II:report_begin", &writing.format, &writing.unit) ? written_text(&writing) : NULL;
@@ -114,7 +106,7 @@ PyObject *native_report_begin(PyObject *module, PyObject *args) {
 
 /* report_end(format, completion) */
 PyObject *native_report_end(PyObject *module, PyObject *args) {
-    writing writing = {.call = write_end};
+    writing writing = {.call = REPORT_END};
 
     (void)module;
     return PyArg_ParseTuple(args, "II:report_end", &writing.format, &writing.completion) ? written_text(&writing) : NULL;
@@ -122,7 +114,7 @@ PyObject *native_report_end(PyObject *module, PyObject *args) {
 
 /* file_begin(format, file) */
 PyObject *native_file_begin(PyObject *module, PyObject *args) {
-    writing writing = {.call = write_file_begin};
+    writing writing = {.call = FILE_BEGIN};
 
     (void)module;
     return PyArg_ParseTuple(args, "Is#:file_begin", &writing.format, &writing.text, &writing.length)
@@ -132,7 +124,7 @@ PyObject *native_file_begin(PyObject *module, PyObject *args) {
 
 /* file_end(format) */
 PyObject *native_file_end(PyObject *module, PyObject *args) {
-    writing writing = {.call = write_file_end};
+    writing writing = {.call = FILE_END};
 
     (void)module;
     return PyArg_ParseTuple(args, "I:file_end", &writing.format) ? written_text(&writing) : NULL;
@@ -141,7 +133,7 @@ PyObject *native_file_end(PyObject *module, PyObject *args) {
 /* message(text, base, profile, wording, rule, place) */
 PyObject *native_message(PyObject *module, PyObject *args) {
     state *state = PyModule_GetState(module);
-    writing writing = {.call = write_message};
+    writing writing = {.call = MESSAGE};
     PyObject *arguments[3], *text = NULL;
     request request = {0};
 
@@ -158,23 +150,24 @@ PyObject *native_message(PyObject *module, PyObject *args) {
 }
 
 /*
- * diagnostic(format, is_first, (file, rule, uri, message, within, text, fix), (line, column, end_line, end_column, fix_line,
- * fix_column, fix_end_line, fix_end_column, place, repeat, kind, offered)), as urlcheck_reported has them.
+ * diagnostic(format, is_coloured, is_first, (file, rule, uri, message, within, text, fix), (line, column, end_line,
+ * end_column, fix_line, fix_column, fix_end_line, fix_end_column, place, repeat, kind, offered)), as urlcheck_reported
+ * has them.
  */
 PyObject *native_diagnostic(PyObject *module, PyObject *args) {
-    writing writing = {.call = write_diagnostic};
+    writing writing = {.call = DIAGNOSTIC};
     urlcheck_reported *it = &writing.reported;
     urlcheck_region *at = &it->numbers.region, *fix = &it->numbers.fix_region;
 
     (void)module;
-    if (!PyArg_ParseTuple(args, "Ip(s#s#s#s#s#s#s#)(O&O&O&O&O&O&O&O&O&O&II):diagnostic", &writing.format,
-                          &writing.is_first, &it->file, &it->file_length, &it->rule, &it->rule_length, &it->uri,
-                          &it->uri_length, &it->message, &it->message_length, &it->within, &it->within_length,
-                          &it->text, &it->text_length, &it->fix, &it->fix_length, read_number, &at->line, read_number,
-                          &at->column, read_number, &at->end_line, read_number, &at->end_column, read_number,
-                          &fix->line, read_number, &fix->column, read_number, &fix->end_line, read_number,
-                          &fix->end_column, read_number, &writing.place, read_number, &it->numbers.repeat,
-                          &it->numbers.kind, &it->numbers.offered))
+    if (!PyArg_ParseTuple(args, "Ipp(s#s#s#s#s#s#s#)(O&O&O&O&O&O&O&O&O&O&II):diagnostic", &writing.format,
+                          &writing.is_coloured, &writing.is_first, &it->file, &it->file_length, &it->rule,
+                          &it->rule_length, &it->uri, &it->uri_length, &it->message, &it->message_length, &it->within,
+                          &it->within_length, &it->text, &it->text_length, &it->fix, &it->fix_length, read_number,
+                          &at->line, read_number, &at->column, read_number, &at->end_line, read_number,
+                          &at->end_column, read_number, &fix->line, read_number, &fix->column, read_number,
+                          &fix->end_line, read_number, &fix->end_column, read_number, &writing.place, read_number,
+                          &it->numbers.repeat, &it->numbers.kind, &it->numbers.offered))
         return NULL;
     it->numbers.place = (size_t)writing.place;
     writing.length = it->text_length;

@@ -20,18 +20,6 @@ PyObject *refuse_text(PyObject *given, const char *what) {
     return NULL;
 }
 
-/* (without names, the arguments are taken as they are, which takes less time than parsing them) */
-int read_arguments(PyObject *args, PyObject *named, const char *format, PyObject *arguments[3]) {
-    static char *names[] = {"text", "base", "profile", NULL};
-    Py_ssize_t count = PyTuple_Size(args);
-
-    arguments[0] = arguments[1] = arguments[2] = NULL;
-    if (named || count < 1 || count > 3)
-        return PyArg_ParseTupleAndKeywords(args, named, format, names, &arguments[0], &arguments[1], &arguments[2]);
-    for (Py_ssize_t at = 0; at < count; at++) arguments[at] = PyTuple_GetItem(args, at);
-    return 1;
-}
-
 /* The number of the profile, or -1 and an error. */
 static int profile_number(state *state, PyObject *given) {
     PyObject *profile;
@@ -106,6 +94,20 @@ int read_request(state *state, PyObject *arguments[3], request *request) {
     if (!request->bytes) return 0;
     request->data = bytes_of(request->bytes, &request->length);
     return 1;
+}
+
+/* (without names, the arguments are taken as they are, which takes less time than parsing them) */
+int read_arguments(state *state, PyObject *args, PyObject *named, const char *format, request *request) {
+    static char *names[] = {"text", "base", "profile", NULL};
+    Py_ssize_t count = PyTuple_Size(args);
+    PyObject *given[3] = {NULL, NULL, NULL};
+
+    if (named || count < 1 || count > 3) {
+        if (!PyArg_ParseTupleAndKeywords(args, named, format, names, &given[0], &given[1], &given[2])) return 0;
+    } else {
+        for (Py_ssize_t at = 0; at < count; at++) given[at] = PyTuple_GetItem(args, at);
+    }
+    return read_request(state, given, request);
 }
 
 void drop_request(request *request) {

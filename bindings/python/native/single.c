@@ -92,38 +92,31 @@ static PyObject *valid(state *state, const request *request, const urlcheck_span
 }
 
 /* What is found of a text, as an object, or whether it is valid. */
-static PyObject *check_answer(PyObject *module, PyObject *arguments[3], int is_whole) {
+static PyObject *check_answer(PyObject *module, PyObject *args, PyObject *named, const char *format, int is_whole) {
     state *state = PyModule_GetState(module);
     PyObject *object = NULL;
     request request = {0};
 
-    if (read_request(state, arguments, &request)) {
+    if (read_arguments(state, args, named, format, &request)) {
         PyThreadState *thread = unlocked(&request);
         urlcheck_answer answer = urlcheck_check(request.data, request.length, request.profile, request.base);
         locked(thread);
-        if (!is_checked(state, answer.found))
-            object = NULL;
-        else if (!is_whole)
-            object = PyBool_FromLong(answer.found.verdict == URLCHECK_VALID);
-        else if (answer.found.verdict == URLCHECK_REFUSED)
-            object = refused(state, answer.found);
-        else
-            object = valid(state, &request, &answer.parts);
+        if (is_checked(state, answer.found)) {
+            int is_valid = answer.found.verdict == URLCHECK_VALID;
+            if (!is_whole) object = PyBool_FromLong(is_valid);
+            else object = is_valid ? valid(state, &request, &answer.parts) : refused(state, answer.found);
+        }
     }
     drop_request(&request);
     return object;
 }
 
 PyObject *native_check(PyObject *module, PyObject *args, PyObject *named) {
-    PyObject *arguments[3];
-
-    return read_arguments(args, named, "O|OO:check", arguments) ? check_answer(module, arguments, 1) : NULL;
+    return check_answer(module, args, named, "O|OO:check", 1);
 }
 
 PyObject *native_is_valid(PyObject *module, PyObject *args, PyObject *named) {
-    PyObject *arguments[3];
-
-    return read_arguments(args, named, "O|OO:is_valid", arguments) ? check_answer(module, arguments, 0) : NULL;
+    return check_answer(module, args, named, "O|OO:is_valid", 0);
 }
 
 /* Writes a text into `most`, or if it is longer into memory of its own, which is to be freed: null if there is none. */
@@ -141,19 +134,13 @@ static uint8_t *write_text(const request *request, int mends, uint8_t *most, url
     return out;
 }
 
-/* The text of a URL record, or a refusal. */
-static PyObject *resolved_answer(state *state, const uint8_t *out, const urlcheck_mended *answer) {
-    if (!is_checked(state, answer->found)) return NULL;
-    if (answer->found.verdict == URLCHECK_REFUSED) return refused(state, answer->found);
-    return text_of(out, answer->length);
-}
-
-/* A mended text, None for a valid one, or a refusal if the edits give no valid text. */
-static PyObject *mended_answer(state *state, const uint8_t *out, const urlcheck_mended *answer) {
+/* The text of a URL record, or a mended text and None for a valid one; a refusal if there is none. */
+static PyObject *written_answer(state *state, const uint8_t *out, const urlcheck_mended *answer, int mends) {
     PyObject *fields;
 
     if (!is_checked(state, answer->found)) return NULL;
     if (answer->found.verdict == URLCHECK_REFUSED) return refused(state, answer->found);
+    if (!mends) return text_of(out, answer->length);
     if (answer->found.verdict == URLCHECK_VALID) {
         Py_INCREF(state->none);
         return state->none;
@@ -169,16 +156,16 @@ static PyObject *mended_answer(state *state, const uint8_t *out, const urlcheck_
 }
 
 /* What resolve and mend share: they read the arguments, write a text, and answer it. */
-static PyObject *write_answer(PyObject *module, PyObject *arguments[3], int mends) {
+static PyObject *write_answer(PyObject *module, PyObject *args, PyObject *named, const char *format, int mends) {
     state *state = PyModule_GetState(module);
     PyObject *object = NULL;
     uint8_t most[MOST], *out;
     urlcheck_mended answer;
     request request = {0};
 
-    if (read_request(state, arguments, &request)) {
+    if (read_arguments(state, args, named, format, &request)) {
         out = write_text(&request, mends, most, &answer);
-        if (out) object = mends ? mended_answer(state, out, &answer) : resolved_answer(state, out, &answer);
+        if (out) object = written_answer(state, out, &answer, mends);
         if (out != most) free(out);
     }
     drop_request(&request);
@@ -186,15 +173,11 @@ static PyObject *write_answer(PyObject *module, PyObject *arguments[3], int mend
 }
 
 PyObject *native_resolve(PyObject *module, PyObject *args, PyObject *named) {
-    PyObject *arguments[3];
-
-    return read_arguments(args, named, "O|OO:resolve", arguments) ? write_answer(module, arguments, 0) : NULL;
+    return write_answer(module, args, named, "O|OO:resolve", 0);
 }
 
 PyObject *native_mend(PyObject *module, PyObject *args, PyObject *named) {
-    PyObject *arguments[3];
-
-    return read_arguments(args, named, "O|OO:mend", arguments) ? write_answer(module, arguments, 1) : NULL;
+    return write_answer(module, args, named, "O|OO:mend", 1);
 }
 
 /* Has the library list the violations, as many as there is room for. */
@@ -223,13 +206,12 @@ static PyObject *violation_list(state *state, const urlcheck_fault *faults, size
 
 PyObject *native_violations(PyObject *module, PyObject *args, PyObject *named) {
     state *state = PyModule_GetState(module);
-    PyObject *arguments[3], *list = NULL;
+    PyObject *list = NULL;
     urlcheck_fault most[MOST_FAULTS], *out = most;
     urlcheck_fault_count answer;
     request request = {0};
 
-    if (!read_arguments(args, named, "O|OO:violations", arguments)) return NULL;
-    if (read_request(state, arguments, &request)) {
+    if (read_arguments(state, args, named, "O|OO:violations", &request)) {
         answer = list_once(&request, most, MOST_FAULTS);
         if (answer.count > MOST_FAULTS && answer.count <= SIZE_MAX / sizeof *out)
             out = malloc(answer.count * sizeof *out);

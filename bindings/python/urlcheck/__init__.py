@@ -23,39 +23,10 @@ from typing import Any, Iterable, Iterator, List, Literal, Optional, Tuple, Unio
 from ._library import native
 
 __all__ = [
-    "Base",
-    "BaseRefused",
-    "Diagnostic",
-    "Explanation",
-    "FORMATS",
-    "Findings",
-    "MendKind",
-    "Mended",
-    "Mendings",
-    "Profile",
-    "RULES",
-    "Refused",
-    "Region",
-    "UNITS",
-    "Valid",
-    "Violation",
-    "__version__",
-    "check",
-    "check_each",
-    "check_many",
-    "column",
-    "explain",
-    "is_valid",
-    "is_valid_many",
-    "mend",
-    "mend_many",
-    "message",
-    "report",
-    "resolve",
-    "resolve_many",
-    "sentence",
-    "version",
-    "violations",
+    "Base", "BaseRefused", "Diagnostic", "Explanation", "FORMATS", "Findings", "MendKind", "Mended", "Mendings",
+    "Profile", "RULES", "Refused", "Region", "UNITS", "Valid", "Violation", "__version__", "check", "check_each",
+    "check_many", "column", "explain", "is_valid", "is_valid_many", "mend", "mend_many", "message", "report",
+    "resolve", "resolve_many", "sentence", "version", "violations",
 ]
 
 
@@ -68,11 +39,8 @@ class Profile(enum.IntEnum):
     """
 
     STANDARD = 0
-    """The URL Standard's valid URL strings."""
     WIDE = 1
-    """Also ``_`` and hyphens anywhere in domains, and any segments after an authority."""
     PARSER = 2
-    """Each text that the URL Standard's parser accepts without a validation error, and no other."""
 
 
 AnyProfile = Union[Profile, Literal["standard", "wide", "parser"], None]
@@ -115,11 +83,8 @@ class MendKind(str, enum.Enum):
     """
 
     SAME = "same"
-    """A second parser reads both as the same URL."""
     ESCAPED = "escaped"
-    """It doesn't, but only some code points were percent-encoded."""
     CHANGED = "changed"
-    """Neither: check that the text is what was meant."""
 
 
 @dataclass(frozen=True)
@@ -149,8 +114,13 @@ class BaseRefused(ValueError):
         self.place = place
 
     def __str__(self) -> str:
-        why = "it has no scheme" if self.rule == "no-scheme" else sentence(self.rule)
-        return "the base is refused at place {}: {} [{}]".format(self.place, why, self.rule)
+        return told_of_base(self, sentence(self.rule))
+
+
+def told_of_base(refused: BaseRefused, why: str) -> str:
+    """What is said of a base that is refused for this. (It is checked by itself, so that it needs a scheme.)"""
+    why = "it has no scheme" if refused.rule == "no-scheme" else why
+    return "the base is refused at place {}: {} [{}]".format(refused.place, why, refused.rule)
 
 
 class Base:
@@ -173,11 +143,11 @@ class Base:
         for name, value in zip(self.__slots__, (text, *native.prepare(text, profile))):
             object.__setattr__(self, name, value)
 
-    def __setattr__(self, name: str, value: object) -> None:
+    def _stay(self, *_: object) -> None:
+        """Refuses what would change it."""
         raise AttributeError("a Base doesn't change: make another one")
 
-    def __delattr__(self, name: str) -> None:
-        raise AttributeError("a Base doesn't change: make another one")
+    __setattr__ = __delattr__ = _stay
 
     def __reduce__(self) -> Tuple[Any, Tuple[str, Profile]]:
         return Base, (self.text, self.profile)
@@ -254,19 +224,20 @@ def _profile(given: object) -> Profile:
     raise ValueError("no profile has the {} {}: there are {}".format(what, given, names))
 
 
-_NO_UTF8 = "no-utf8"
-_NAMES = tuple(native.text(0, rule) for rule in range(15)) + (_NO_UTF8,)
-_SENTENCES = {name: native.text(1, rule) for rule, name in enumerate(_NAMES[:-1]) if rule}
-
-RULES: Tuple[str, ...] = _NAMES[1:-1]
+RULES: Tuple[str, ...] = tuple(native.text(0, rule) for rule in range(1, 15))
 """The names of the rules, in the order of their numbers."""
+
+COLUMN_RULES: Tuple[Optional[str], ...] = (None, *RULES, "no-utf8")
+"""What a column of rules has for each number: the last stands for bytes that aren't UTF-8, as an Arrow array may hold."""
+
+_SENTENCES = {name: native.text(1, rule) for rule, name in enumerate(RULES, 1)}
 
 native.use(
     (Valid, Refused, Mended, Violation, Base, BaseRefused, _profile),
     tuple(Profile),
     (None, *MendKind),
     (None, *(kind.value for kind in MendKind)),
-    _NAMES,
+    COLUMN_RULES,
 )
 
 __version__ = version()

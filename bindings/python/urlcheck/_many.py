@@ -9,15 +9,15 @@ import sys
 from array import array as Numbers
 from typing import Any, Iterable, List, NamedTuple, Optional, Tuple
 
-from . import AnyBase, AnyProfile
+from . import COLUMN_RULES, AnyBase, AnyProfile, Base, MendKind
 from ._arrow import Column, is_arrow
 from ._library import native
 
 _MISSING = 255
 """The verdict of a missing text, as native.h has it."""
-_NO_UTF8 = "no-utf8"
-_RULES: Tuple[Optional[str], ...] = (None, *(native.text(0, rule) for rule in range(1, 15)), _NO_UTF8)
-"""The names of the rules by their numbers, and after them of bytes that aren't UTF-8, as an Arrow array may hold."""
+
+_KINDS = [it.value for it in MendKind]
+"""The kinds of mended texts, in the order of their numbers from 1."""
 
 
 class Findings(NamedTuple):
@@ -87,19 +87,23 @@ class _Lists:
         """The verdicts of the texts, and of all the rules and the places too."""
         return native.check_texts(self.listed(texts), _missing(), base, profile, is_all)
 
+    def truths(self, texts: Any, verdicts: bytearray) -> Any:
+        """Whether each text is valid. (A table takes less time than a comparison each.)"""
+        return list(map(_TRUTHS.__getitem__, verdicts))
+
     def check(self, texts: Any, base: AnyBase, profile: AnyProfile) -> Findings:
         """What ``check_many`` gives."""
         verdicts, rules, places = self.found(texts, base, profile, True)
         numbers = memoryview(places).cast("q").tolist()
         return Findings(
-            _truths(verdicts),
-            list(map(_RULES.__getitem__, rules)),
+            self.truths(texts, verdicts),
+            list(map(COLUMN_RULES.__getitem__, rules)),
             [place if place >= 0 else None for place in numbers] if any(rules) else [None] * len(rules),
         )
 
     def is_valid(self, texts: Any, base: AnyBase, profile: AnyProfile) -> Any:
         """What ``is_valid_many`` gives."""
-        return _truths(self.found(texts, base, profile, False)[0])
+        return self.truths(texts, self.found(texts, base, profile, False)[0])
 
     def write(self, texts: Any, base: AnyBase, profile: AnyProfile, mends: bool) -> Tuple[Any, Any]:
         """What ``mend_many`` gives, or the texts of URLs."""
@@ -108,11 +112,6 @@ class _Lists:
 
 _TRUTHS: List[Optional[bool]] = [True] + [False] * (_MISSING - 1) + [None]
 """Whether a text is valid, by its verdict: 0 means that it is."""
-
-
-def _truths(verdicts: bytearray) -> List[Optional[bool]]:
-    """Whether each text is valid, or ``None`` for a missing one. (A table takes less time than a comparison each.)"""
-    return list(map(_TRUTHS.__getitem__, verdicts))
 
 
 class _Arrays(_Lists):
@@ -127,7 +126,7 @@ class _Arrays(_Lists):
         listed: List[Any] = texts.tolist()
         return listed
 
-    def truths(self, verdicts: bytearray) -> Any:
+    def truths(self, texts: Any, verdicts: bytearray) -> Any:
         """Whether each text is valid: an array of objects only when a text is missing, which a truth can't say."""
         import numpy
 
@@ -142,11 +141,8 @@ class _Arrays(_Lists):
         import numpy
 
         verdicts, rules, places = self.found(texts, base, profile, True)
-        names = numpy.array(_RULES, object)[numpy.frombuffer(rules, numpy.uint8)]
-        return Findings(self.truths(verdicts), names, numpy.frombuffer(places, numpy.int64))
-
-    def is_valid(self, texts: Any, base: AnyBase, profile: AnyProfile) -> Any:
-        return self.truths(self.found(texts, base, profile, False)[0])
+        names = numpy.array(COLUMN_RULES, object)[numpy.frombuffer(rules, numpy.uint8)]
+        return Findings(self.truths(texts, verdicts), names, numpy.frombuffer(places, numpy.int64))
 
     def write(self, texts: Any, base: AnyBase, profile: AnyProfile, mends: bool) -> Tuple[Any, Any]:
         return _objects(super().write(texts, base, profile, mends))
@@ -165,12 +161,15 @@ def _objects(columns: Tuple[List[Any], List[Any]]) -> Tuple[Any, Any]:
 class _Series(_Lists):
     """Columns of pandas, with their index. Texts that are held by Arrow are read where they are."""
 
+    def listed(self, texts: Any) -> List[Any]:
+        listed: List[Any] = texts.tolist()
+        return listed
+
     def found(self, texts: Any, base: AnyBase, profile: AnyProfile, is_all: bool) -> Tuple[bytearray, ...]:
-        """The verdicts of the texts, and of all the rules and the places too."""
         array = _arrow_of(texts)
-        if array is not None:
-            return _Arrow().found(array, base, profile, is_all)
-        return native.check_texts(texts.tolist(), _missing(), base, profile, is_all)
+        if array is None:
+            return super().found(texts, base, profile, is_all)
+        return _Arrow().found(array, base, profile, is_all)
 
     def truths(self, texts: Any, verdicts: bytearray) -> Any:
         """Whether each text is valid, in a column that knows missing values."""
@@ -188,13 +187,10 @@ class _Series(_Lists):
         verdicts, rules, places = self.found(texts, base, profile, True)
         numbers = numpy.frombuffer(rules, numpy.uint8)
         # (a category counts from 0, and -1 is missing, where a rule counts from 1)
-        names = pandas.Categorical.from_codes(numbers.astype(numpy.int8) - 1, categories=list(_RULES[1:]))
+        names = pandas.Categorical.from_codes(numbers.astype(numpy.int8) - 1, categories=list(COLUMN_RULES[1:]))
         columns = (names, pandas.arrays.IntegerArray(numpy.frombuffer(places, numpy.int64), numbers == 0))
         made = (pandas.Series(column, index=texts.index, name=texts.name) for column in columns)
         return Findings(self.truths(texts, verdicts), *made)
-
-    def is_valid(self, texts: Any, base: AnyBase, profile: AnyProfile) -> Any:
-        return self.truths(texts, self.found(texts, base, profile, False)[0])
 
     def write(self, texts: Any, base: AnyBase, profile: AnyProfile, mends: bool) -> Tuple[Any, Any]:
         import pandas
@@ -204,14 +200,10 @@ class _Series(_Lists):
             written, kinds = _Arrow().write(array, base, profile, mends)
             kinds = kinds.to_pylist()
         else:
-            written, kinds = _objects(native.write_texts(texts.tolist(), _missing(), base, profile, mends))
+            written, kinds = _objects(super().write(texts, base, profile, mends))
         columns = (pandas.array(written, _written_type(texts.dtype)), pandas.Categorical(kinds, _KINDS))
         made = [pandas.Series(column, index=texts.index, name=texts.name) for column in columns]
         return made[0], made[1]
-
-
-_KINDS = ["same", "escaped", "changed"]
-"""The kinds of mended texts, in the order of their numbers from 1."""
 
 
 def _arrow_of(texts: Any) -> Any:
@@ -262,30 +254,31 @@ class _Arrow(_Lists):
     """Arrays of Arrow, by its C data interface: one piece, or several of which the answers are joined."""
 
     def found(self, texts: Any, base: AnyBase, profile: AnyProfile, is_all: bool) -> Tuple[bytearray, ...]:
-        """The verdicts of the texts, and of all the rules and the places too."""
-        chunks = Column.chunks(texts)
+        chunks, base = Column.chunks(texts), _prepared(base, profile)
         parts = [native.check_arrow(schema, array, base, profile, is_all) for schema, array in chunks]
         return parts[0] if len(parts) == 1 else tuple(bytearray().join(columns) for columns in zip(*parts))
 
+    def truths(self, texts: Any, verdicts: bytearray) -> Any:
+        return Column.truths(verdicts, _MISSING).like(texts)
+
     def check(self, texts: Any, base: AnyBase, profile: AnyProfile) -> Findings:
         verdicts, rules, places = self.found(texts, base, profile, True)
-        return Findings(
-            Column.truths(verdicts, _MISSING).like(texts),
-            Column.names(rules, _RULES[1:]).like(texts),
-            Column.numbers(places, rules).like(texts),
-        )
-
-    def is_valid(self, texts: Any, base: AnyBase, profile: AnyProfile) -> Any:
-        return Column.truths(self.found(texts, base, profile, False)[0], _MISSING).like(texts)
+        names = Column.names(rules, COLUMN_RULES[1:]).like(texts)
+        return Findings(self.truths(texts, verdicts), names, Column.numbers(places, rules).like(texts))
 
     def write(self, texts: Any, base: AnyBase, profile: AnyProfile, mends: bool) -> Tuple[Any, Any]:
-        chunks = Column.chunks(texts)
+        chunks, base = Column.chunks(texts), _prepared(base, profile)
         parts = [native.write_arrow(schema, array, base, profile, mends) for schema, array in chunks]
         if not hasattr(texts, "chunks"):
             parts = [_whole(parts)]
         made = [Column.texts(*part) for part in parts]
         kinds = [Column.names(_lowered(marks), _KINDS) for _, _, marks in parts]
         return Column.joined(made, texts), Column.joined(kinds, texts)
+
+
+def _prepared(base: AnyBase, profile: AnyProfile) -> AnyBase:
+    """A base that is checked once for all pieces."""
+    return Base(base, profile) if isinstance(base, str) else base
 
 
 def _whole(parts: List[Tuple[bytes, bytearray, bytearray]]) -> Tuple[bytes, bytearray, bytearray]:

@@ -17,6 +17,7 @@ def report_begin(format: int, unit: int) -> str: ...
 def file_begin(format: int, file: str) -> str: ...
 def diagnostic(
     format: int,
+    is_coloured: bool,
     is_first: bool,
     strings: Tuple[str, str, str, str, str, str, str],
     numbers: Tuple[int, int, int, int, int, int, int, int, int, int, int, int],
@@ -32,7 +33,7 @@ def use(
     profiles: Tuple[Profile, ...],
     kinds: Tuple[Any, ...],
     kind_names: Tuple[Optional[str], ...],
-    rules: Tuple[str, ...],
+    rules: Tuple[Optional[str], ...],
 ) -> None: ...
 def check_texts(
     texts: List[Any], missing: Tuple[Any, ...], base: AnyBase, profile: AnyProfile, is_all: bool

@@ -216,11 +216,13 @@ pub fn check_many(texts: &Texts, profile: u32, base: Option<&ffi::Base>) -> Colu
     columns
 }
 
-/// What `check_many` finds of the texts without a base, their URLs one after another, and the ends of these.
-pub fn resolve_many(texts: &Texts, profile: u32) -> (Columns, String, Vec<u64>) {
+/// What is found of each of the texts, their URLs one after another, and the ends of these.
+pub fn resolve_many(texts: &Texts, profile: u32, base: Option<&str>) -> (Columns, String, Vec<u64>) {
+    let (start, length) = parts_of(base);
     let mut columns = Columns::of(texts.count());
     let mut ends = vec![0; texts.offsets.len()];
-    let (outcome, urls) = text_of(texts.bytes.len() + 4 * texts.count(), |out, room| {
+    let usual = texts.bytes.len() + texts.count() * (4 + length);
+    let (outcome, urls) = text_of(usual, |out, room| {
         // SAFETY: as in `check_many`; `ends` has `count` + 1 elements, and `out` has `room` bytes of its own.
         let batch: ffi::Batch = unsafe {
             answered(|it| {
@@ -231,6 +233,8 @@ pub fn resolve_many(texts: &Texts, profile: u32) -> (Columns, String, Vec<u64>) 
                     texts.offsets.as_ptr(),
                     texts.count(),
                     profile,
+                    start,
+                    length,
                     columns.verdicts.as_mut_ptr(),
                     columns.rules.as_mut_ptr(),
                     columns.places.as_mut_ptr(),

@@ -110,7 +110,7 @@ impl<'base> Checker<'base> {
         self.base.map(Base::prepared)
     }
 
-    fn base_text(self) -> Option<&'base str> {
+    pub(crate) fn base_text(self) -> Option<&'base str> {
         self.base.map(Base::as_str)
     }
 }

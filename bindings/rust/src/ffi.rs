@@ -177,6 +177,8 @@ extern "C" {
         offsets: *const u64,
         count: usize,
         profile: u32,
+        base: *const u8,
+        base_length: usize,
         verdicts: *mut u8,
         rules: *mut u8,
         places: *mut u64,

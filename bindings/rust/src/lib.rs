@@ -104,7 +104,7 @@ pub fn violations(text: &str) -> Vec<Violation> {
     STANDARD.violations(text)
 }
 
-/// The version of the library that answers, such as `0.4.0`.
+/// The version of the library that answers, such as `0.5.0`.
 #[must_use]
 pub fn version() -> String {
     let version = calls::version();

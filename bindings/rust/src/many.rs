@@ -41,18 +41,11 @@ impl Checker<'_> {
     where
         I::Item: AsRef<str>,
     {
-        if self.base().is_some() {
-            return Urls::gathered(texts.into_iter().map(|text| self.resolved(text.as_ref())));
-        }
         let texts = Texts::collect(texts);
-        let (columns, urls, ends) = calls::resolve_many(&texts, self.profile().number());
+        let (columns, urls, ends) = calls::resolve_many(&texts, self.profile().number(), self.base_text());
         let found = rows_of(&texts, &columns);
         let rows = found.into_iter().zip(ends.windows(2));
         Urls { text: urls, rows: rows.map(|(found, ends)| found.map(|()| range(ends))).collect() }
-    }
-
-    fn resolved(self, text: &str) -> Result<String, Violation> {
-        self.resolve(text).map(String::from).map_err(|refusal| refusal.violation())
     }
 }
 
@@ -118,18 +111,6 @@ impl Urls {
 
     fn url(&self, row: &Result<Range<usize>, Violation>) -> Result<&str, Violation> {
         row.clone().map(|range| &self.text[range])
-    }
-
-    fn gathered(urls: impl Iterator<Item = Result<String, Violation>>) -> Self {
-        let mut all = Self::default();
-        for url in urls {
-            let start = all.text.len();
-            all.rows.push(url.map(|url| {
-                all.text.push_str(&url);
-                start..all.text.len()
-            }));
-        }
-        all
     }
 }
 

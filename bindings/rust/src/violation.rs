@@ -71,7 +71,7 @@ impl Refusal {
         self.violation.byte_place
     }
 
-    /// The profile by which the text was checked.
+    /// The profile under which the text was checked.
     #[must_use]
     pub const fn profile(&self) -> Profile {
         self.profile

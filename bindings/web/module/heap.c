@@ -1,7 +1,7 @@
 /* See heap.h. The heap is one block after the other from the rooms' end on; it never shrinks the engine's memory. */
 #include "heap.h"
 
-/* A page of WebAssembly, and the multiple at which a block begins that anything may be in. */
+/* A page of WebAssembly, and the alignment of a block, which may hold values of any type. */
 enum { PAGE = 65536, ALIGNMENT = 16 };
 
 /* Addresses have to fit into 32 bits, the one after the last byte too. */

@@ -12,7 +12,7 @@ uint64_t proved_report_file_end(urlcheck_written *answer, uint32_t format, uint8
     PROVED("report_file_end");
 uint64_t proved_report_end(urlcheck_written *answer, uint32_t format, uint32_t completion, uint8_t *out, size_t room)
     PROVED("report_end");
-uint64_t proved_diagnostic(urlcheck_written *answer, uint32_t format, uint32_t is_first,
+uint64_t proved_diagnostic(urlcheck_written *answer, uint32_t format, uint32_t is_coloured, uint32_t is_first,
                            const urlcheck_reported_numbers *numbers, const uint8_t *file, size_t file_length,
                            const uint8_t *rule, size_t rule_length, const uint8_t *uri, size_t uri_length,
                            const uint8_t *message, size_t message_length, const uint8_t *within, size_t within_length,
@@ -106,7 +106,7 @@ void diagnostic(uint32_t format, uint32_t unit, uint32_t is_first, uint32_t rule
     if (kind != 0) numbers.fix_region = whole;
     fixed_text name, address;
     if (!takes_text(&name, URLCHECK_RULE_NAME, rule) || !takes_text(&address, URLCHECK_RULE_ADDRESS, rule)) return;
-    WRITE_TEXT(proved_diagnostic(&written, format, is_first, &numbers, file, file_length, name.bytes, name.length,
+    WRITE_TEXT(proved_diagnostic(&written, format, 0, is_first, &numbers, file, file_length, name.bytes, name.length,
                                  address.bytes, address.length, said, said_length, file, 0, text, length,
                                  file + file_length, fix_length, out, room));
 }

@@ -20,7 +20,8 @@ use Rattle.urlcheck_c.specs.Base.{held_base, is_refused_base, kind_in, scheme_nu
 use Rattle.urlcheck_c.specs.declared.finding.CallOutcome.TheVariants.{NoBase}
 use Rattle.urlcheck_c.specs.Finding.{IsSmall, plain_finding, profile_of}
 use Rattle.urlcheck_c.proofs.RuleLemmas.{rule_fits}
-use Rattle.urlcheck_c.specs.Request.{IsBase, IsNoBase, IsNoBaseGiven, IsNoRecord, IsNoRequest, IsRequest, IsUnchecked}
+use Rattle.urlcheck_c.specs.Request.{IsBase, IsBaseGivenRead, IsNoBase, IsNoBaseGiven, IsNoRequest, IsRequest}
+use Rattle.urlcheck_c.specs.Request.{IsUnchecked}
 
 -- ---- the kind and its numbers
 
@@ -42,7 +43,7 @@ kind_back number kind =
 
 -- ---- why nothing is checked
 
--- what is told of a base that is refused is what was found of it
+-- the answer about a refused base is what was found of it
 told_fault : (number : ℕ) (profile : Profile) (bytes : List ℕ) (base : Base) → base.profile ≡ number
     → IsNoBase profile bytes base.found → base_fault number base ≡ base.found
 told_fault number profile bytes base same (inl x) = rw (same, x.said, eq-eqb number number refl) refl
@@ -175,7 +176,7 @@ small_refused found is =
     let rule = leb-true found.rule 14 parts.1 in
     (small_verdict found.verdict parts.0, omega (arith, rule))
 
--- the numbers of what is told of a base fit into a byte
+-- the numbers of the answer about a base fit into a byte
 small_fault : (number : ℕ) (base : Base) → IsSmall (base_fault number base)
 small_fault number base =
     small_by (base.profile == number && is_refused_base base.found) base.found
@@ -196,8 +197,8 @@ small_unasked number base bytes finding (inr (profile, by, inr (utf8, none))) = 
 -- ---- a record that isn't made
 
 -- nothing is read from the base, or memory runs out for its record
-pub no_request : (number : ℕ) (profile : Profile) (base bytes : List ℕ) (finding : Finding)
-    → profile_of number ≡ Some profile → IsUtf8 bytes
-    → IsNoBase profile base finding ⊎ IsNoRecord profile base finding → IsNoRequest number (Some base) bytes finding
+pub no_request : (number : ℕ) (profile : Profile) (base : Option (List ℕ)) (bytes : List ℕ) (finding : Finding)
+    → profile_of number ≡ Some profile → IsUtf8 bytes → IsBaseGivenRead profile base (Err finding)
+    → IsNoRequest number base bytes finding
 no_request number profile base bytes finding is utf8 (inl none) = inl (inr (profile, is, inr (utf8, none)))
 no_request number profile base bytes finding is utf8 (inr lacking) = inr (profile, is, utf8, lacking)

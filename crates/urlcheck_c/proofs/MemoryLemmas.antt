@@ -71,7 +71,7 @@ valid_has_none profile base bytes out parts count accepted is =
       stored = sym (ap (λ (l : List Fault). l ++ out) (take-nil (length out)));
     })
 
--- memory may run out for those of any other
+-- memory may run out for the faults of any other text
 pub listing_lacks : (profile : Profile) (base : Option Url) (bytes : List ℕ) (out : List Fault) (count : FaultCount)
     → ¬ (IsValidWithoutMemory profile base (chars bytes)) → count ≡ no_faults (plain_finding Memory)
     → IsFaultsChecked profile base bytes out out count

@@ -193,7 +193,7 @@ pub between : (span : Span) (start end count : ℕ) → span ≡ full_span start
 between span start end count is reaches =
     is ∙ same_span start (start + 0) (end - start) count (omega arith) (omega (arith, reaches))
 
--- the spans are those of the record's parts
+-- the spans belong to the record's parts
 pub spans_read : (scheme host port path query fragment : Span) (url : Url) → scheme ≡ (record_spans url).scheme
     → host ≡ (record_spans url).host → port ≡ (record_spans url).port → path ≡ (record_spans url).path
     → query ≡ (record_spans url).query → fragment ≡ (record_spans url).fragment

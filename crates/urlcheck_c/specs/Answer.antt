@@ -14,7 +14,7 @@ use Rattle.urlcheck_c.specs.Finding.{plain_finding}
 use Rattle.urlcheck_c.specs.Request.{IsOutOfMemory, IsRefusedText, IsRequest, IsUnchecked}
 use Rattle.urlcheck_c.specs.Span.{AreSpans, no_spans}
 
--- the text is valid against the base, and the spans are those of its parts
+-- the text is valid against the base, and the spans belong to its parts
 pub record IsValidAnswer (profile : Profile) (base : Option Url) (bytes : List ℕ) (answer : Answer) : Type 0 where
   pub parts : Parts
   pub accepted : IsAccepted profile base (chars bytes) parts

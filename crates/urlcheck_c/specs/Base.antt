@@ -73,7 +73,7 @@ IsUnread number bytes finding =
     ((profile_of number ≡ None) × (finding ≡ plain_finding NoProfile))
     ⊎ ((profile : Profile) × (profile_of number ≡ Some profile) × IsNoBase profile bytes finding)
 
--- the bytes denote a URL of this kind alone
+-- the bytes denote a URL of this kind without a base
 pub record IsBaseOfKind (number : ℕ) (bytes : List ℕ) (kind : BaseKind) : Type 0 where
   pub profile : Profile
   pub url : Url
@@ -81,12 +81,12 @@ pub record IsBaseOfKind (number : ℕ) (bytes : List ℕ) (kind : BaseKind) : Ty
   pub base_is : IsBase profile (Some bytes) (Some url)
   pub kind_is : IsOfKind url kind
 
--- the kind of what the bytes denote alone under the profile, or why they denote nothing
+-- the kind of what the bytes denote without a base under the profile, or why they denote nothing
 abbrev pub IsKindDenoted : Profile → List ℕ → Result BaseKind Finding → Type 0
 IsKindDenoted profile bytes (Ok kind) = (url : Url) × IsBase profile (Some bytes) (Some url) × IsOfKind url kind
 IsKindDenoted profile bytes (Err finding) = IsNoBase profile bytes finding
 
--- the kind of what the bytes denote alone under the profile with this number, or why they denote nothing
+-- the kind of what the bytes denote without a base under the profile with this number, or why they denote nothing
 abbrev pub IsKindRead : ℕ → List ℕ → Result BaseKind Finding → Type 0
 IsKindRead number bytes (Ok kind) = IsBaseOfKind number bytes kind
 IsKindRead number bytes (Err finding) = IsUnread number bytes finding

@@ -7,6 +7,7 @@ use Rattle.uv_report.specs.declared.diagnostic.Diagnostic.{Diagnostic}
 use Rattle.uv_report.specs.declared.diagnostic.Fix.{Fix}
 use Rattle.uv_report.specs.declared.diagnostic.Region.{Region}
 use Rattle.uv_report.specs.declared.format.Format.{Format}
+use Rattle.uv_report.specs.declared.look.Look.{Look}
 use Rattle.uv_report.specs.Diagnostic.{DiagnosticView, FixView, diagnostic_view, fix_view}
 use Rattle.uv_report.specs.Report.{diagnostic_text}
 use Rattle.urlcheck_c.specs.declared.reports.diagnostics.ReportedNumbers.{ReportedNumbers}
@@ -17,7 +18,7 @@ use Rattle.urlcheck_c.specs.declared.finding.CallOutcome.TheVariants.{FileNoUtf8
 use Rattle.urlcheck_c.specs.declared.written.Written.{Written}
 use Rattle.urlcheck_c.specs.Column.{IsInRange}
 use Rattle.urlcheck_c.specs.Finding.{plain_finding}
-use Rattle.urlcheck_c.specs.ReportNumbers.{format_of, kind_of}
+use Rattle.urlcheck_c.specs.ReportNumbers.{format_of, kind_of, look_of}
 use Rattle.urlcheck_c.specs.Request.{IsNoText}
 use Rattle.urlcheck_c.specs.Written.{IsGiven, IsRefusedFor, IsUnwritten}
 
@@ -77,6 +78,7 @@ IsFixRegionRead given (Err finding) = IsNoFixRegion given finding
 -- ---- the fix
 
 -- The numbers and the bytes say this fix: its kind, its text, where that may be written, and whether it is offered.
+-- Whether the message says what to write instead is a judgement of what was meant, which this leaves open.
 pub record IsSomeFix (numbers : ReportedNumbers) (bytes : List ℕ) (fix : FixView) : Type 0 where
   pub told : numbers.kind ≢ 0
   pub kind_is : kind_of numbers.kind ≡ Some fix.kind
@@ -162,17 +164,17 @@ IsDiagnosticRead numbers texts text (Err finding) = IsNoDiagnostic numbers texts
 -- ---- the answer
 
 -- There is no text, or no diagnostic on it, and nothing was written; or its text is given.
-abbrev pub IsReportedAnswer : Format → Bool → ReportedNumbers → ReportedTexts → List ℕ → List ℕ → Written → Type 0
-IsReportedAnswer format is_first numbers texts old new answer =
+abbrev pub IsReportedAnswer : Format → Look → Bool → ReportedNumbers → ReportedTexts → List ℕ → List ℕ → Written → Type 0
+IsReportedAnswer format look is_first numbers texts old new answer =
     ((finding : Finding) × IsNoTextAt texts.text numbers.place finding × IsUnwritten finding old new answer)
     ⊎ (IsText texts.text numbers.place
     × (((finding : Finding) × IsNoDiagnostic numbers texts finding × IsUnwritten finding old new answer)
     ⊎ ((found : DiagnosticView) × IsDiagnostic numbers texts texts.text found
-    × IsGiven (diagnostic_text format is_first found) old new answer)))
+    × IsGiven (diagnostic_text format look is_first found) old new answer)))
 
 -- No format has the number, and nothing was written; or it is answered in the format.
-abbrev pub IsDiagnosticAnswer : ℕ → ℕ → ReportedNumbers → ReportedTexts → List ℕ → List ℕ → Written → Type 0
-IsDiagnosticAnswer format is_first numbers texts old new answer =
+abbrev pub IsDiagnosticAnswer : ℕ → ℕ → ℕ → ReportedNumbers → ReportedTexts → List ℕ → List ℕ → Written → Type 0
+IsDiagnosticAnswer format is_coloured is_first numbers texts old new answer =
     ((format_of format ≡ None) × IsRefusedFor NoFormat old new answer)
     ⊎ ((known : Format) × (format_of format ≡ Some known)
-    × IsReportedAnswer known (not (is_first == 0)) numbers texts old new answer)
+    × IsReportedAnswer known (look_of is_coloured) (not (is_first == 0)) numbers texts old new answer)

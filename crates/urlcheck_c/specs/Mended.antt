@@ -34,7 +34,7 @@ pub record IsMendedText (mended : List ℕ) (kind : MendKind) (old new : List �
   pub offered : given.offered ≡ flag_number is_offered
   pub written : IsWritten mended old new given.length
 
--- What is said of a text, by its bytes: it is valid; or this is the mended text; or it is refused. But for a mended
+-- The answer about a text, by its bytes: it is valid; or this is the mended text; or it is refused. But for a mended
 -- text nothing is written.
 abbrev pub IsSaid : List ℕ → Mending → List ℕ → List ℕ → Mended → Type 0
 IsSaid bytes answer.Valid old new given = (given ≡ unmended (plain_finding outcome.Valid)) × (new ≡ old)

@@ -34,7 +34,7 @@ pub record IsFirstLine (bytes : List ℕ) (line : FirstLine) : Type 0 where
   pub some : 0 < line.extent
   pub within : line.extent ≤ length bytes
 
--- the check of the line alone finds it valid
+-- the check of the line by itself finds it valid
 abbrev pub IsValidLine : ℕ → List ℕ → Type 0
 IsValidLine number line = (finding : Finding) × answer.IsFound number None line finding × (finding.verdict ≡ 0)
 
@@ -44,8 +44,8 @@ Passes number zero lines rest = lines ≡ rest
 Passes number (suc count) lines rest =
     (line : List ℕ) × Passes number count lines (line ∷ rest) × IsValidLine number line
 
--- This is the first line that isn't valid, after so many valid ones: what the check of it alone finds, where it begins
--- and ends in the buffer, and where the lines after it begin.
+-- This is the first line that isn't valid, after so many valid ones: what the check of it by itself finds, where it
+-- begins and ends in the buffer, and where the lines after it begin.
 pub record IsRefusedLine (number : ℕ) (bytes : List ℕ) (from : ℕ) (line : Line) : Type 0 where
   pub text : List ℕ
   pub passed : Passes number line.passed (lines_of (drop from bytes)) (text ∷ lines_of (drop line.next bytes))

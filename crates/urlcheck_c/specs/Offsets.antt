@@ -10,7 +10,7 @@ abbrev pub IsRow : ℕ → List ℕ → ℕ → Type 0
 IsRow bytes offsets row =
     (slice_index offsets row ≤ slice_index offsets (row + 1)) × (slice_index offsets (row + 1) ≤ bytes)
 
--- so do those of the texts before this one
+-- so do the offsets of the texts before this one
 abbrev pub AreRows : ℕ → List ℕ → ℕ → Type 0
 AreRows bytes offsets count = (row : ℕ) → row < count → IsRow bytes offsets row
 

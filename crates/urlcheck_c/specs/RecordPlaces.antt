@@ -1,4 +1,4 @@
--- Where the parts of a record are in its text (URL Standard, section 4.5), in bytes. The text is ASCII.
+-- The places of a record's parts in its text (URL Standard, section 4.5), in bytes. The text is ASCII.
 use Rattle.std.specs.Prelude.{◌≡◌, ℕ, ◌+◌, ◌≤◌, List, Option, Some, None, decimal, length, option_map, slice_range}
 use Rattle.uv_model.specs.declared.host.Host.{Host}
 use Rattle.uv_model.specs.Records.Serialize.{serial, serial_host, serial_path}
@@ -75,7 +75,7 @@ StandsAt bytes at mark (Some text) span =
     (span ≡ placed_span at mark (Some (length text))) × (span.start + span.length ≤ length bytes)
     × (slice_range bytes span.start (span.start + span.length) ≡ text)
 
--- the spans are those of the record's parts, each after the one before, and these are the whole text
+-- the spans belong to the record's parts, each after the one before, and the parts are the whole text
 pub record AreRecordSpans (url : Url) (spans : Spans) : Type 0 where
   pub scheme : StandsAt (serial url) 0 0 (Some url.scheme) spans.scheme
   pub host : StandsAt (serial url) (host_place url) 2 (host_text url.host) spans.host

@@ -3,15 +3,22 @@ use Rattle.std.specs.Prelude.{◌≡◌, ℕ, ◌⊎◌, Bool, true, false, List
 use Rattle.uv_report.specs.declared.places.column.Columns.{Columns}
 use Rattle.uv_report.specs.declared.completion.Completion.{Completion}
 use Rattle.uv_report.specs.declared.format.Format.{Format}
+use Rattle.uv_report.specs.declared.format.Format.TheVariants.{Sarif, Checkstyle, Junit}
 use Rattle.uv_report.specs.Format.{takes_columns}
 use Rattle.uv_report.specs.Format as reported
 use Rattle.uv_report.specs.Report.{begin_text, end_text, file_begin_text, file_end_text}
 use Rattle.urlcheck_c.specs.declared.finding.Finding.{Finding}
-use Rattle.urlcheck_c.specs.declared.finding.CallOutcome.TheVariants.{NoFormat, NoUnit, NoCompletion, FileNoUtf8}
+use Rattle.urlcheck_c.specs.declared.finding.CallOutcome.TheVariants.{NoFormat, NoUnit, NoCompletion, FileNoUtf8, Memory}
 use Rattle.urlcheck_c.specs.declared.written.Written.{Written}
 use Rattle.urlcheck_c.specs.ReportNumbers.{completion_of, format_of, unit_of}
 use Rattle.urlcheck_c.specs.Request.{IsNoText}
-use Rattle.urlcheck_c.specs.Written.{IsGiven, IsRefusedFor, IsTextGiven, IsUnwritten}
+use Rattle.urlcheck_c.specs.Written.{IsRefusedFor, IsTextGiven, IsUnwritten}
+
+-- What a report begins with is given. Or memory ran out, which it may only in SARIF.
+abbrev pub IsBeginGiven : Format → Columns → List ℕ → List ℕ → Written → Type 0
+IsBeginGiven format columns old new answer =
+    IsTextGiven (begin_text format columns) old new answer
+    ⊎ ((format ≡ Sarif) × IsRefusedFor Memory old new answer)
 
 -- No format has the number; or no unit has, or the format has no word for it; otherwise what a report begins with is
 -- given.
@@ -21,7 +28,14 @@ IsBeginAnswer format unit old new answer =
     ⊎ (((unit_of unit ≡ None) × IsRefusedFor NoUnit old new answer)
     ⊎ ((known : Format) × (columns : Columns) × (format_of format ≡ Some known) × (unit_of unit ≡ Some columns)
     × (((takes_columns known columns ≡ false) × IsRefusedFor NoUnit old new answer)
-    ⊎ ((takes_columns known columns ≡ true) × IsGiven (begin_text known columns) old new answer))))
+    ⊎ ((takes_columns known columns ≡ true) × IsBeginGiven known columns old new answer))))
+
+-- What is before the diagnostics of a file is given. Or memory ran out, which it may only in the two formats that write
+-- something there.
+abbrev pub IsFileBeginGiven : Format → List ℕ → List ℕ → List ℕ → Written → Type 0
+IsFileBeginGiven format file old new answer =
+    IsTextGiven (file_begin_text format file) old new answer
+    ⊎ (((format ≡ Checkstyle) ⊎ (format ≡ Junit)) × IsRefusedFor Memory old new answer)
 
 -- no format has the number, or the file's name isn't UTF-8; otherwise what is before its diagnostics is given
 abbrev pub IsFileBeginAnswer : ℕ → List ℕ → List ℕ → List ℕ → Written → Type 0
@@ -29,13 +43,13 @@ IsFileBeginAnswer format file old new answer =
     ((format_of format ≡ None) × IsRefusedFor NoFormat old new answer)
     ⊎ ((known : Format) × (format_of format ≡ Some known)
     × (((finding : Finding) × IsNoText FileNoUtf8 file finding × IsUnwritten finding old new answer)
-    ⊎ (IsUtf8 file × IsGiven (file_begin_text known file) old new answer)))
+    ⊎ (IsUtf8 file × IsFileBeginGiven known file old new answer)))
 
--- no format has the number; otherwise what is after the diagnostics of a file is given
+-- no format has the number; otherwise what is after the diagnostics of a file is given, for which no memory is asked
 abbrev pub IsFileEndAnswer : ℕ → List ℕ → List ℕ → Written → Type 0
 IsFileEndAnswer format old new answer =
     ((format_of format ≡ None) × IsRefusedFor NoFormat old new answer)
-    ⊎ ((known : Format) × (format_of format ≡ Some known) × IsGiven (file_end_text known) old new answer)
+    ⊎ ((known : Format) × (format_of format ≡ Some known) × IsTextGiven (file_end_text known) old new answer)
 
 -- no format or no completion has the number; otherwise what a report ends with is given, for which no memory is asked
 abbrev pub IsEndAnswer : ℕ → ℕ → List ℕ → List ℕ → Written → Type 0

@@ -10,6 +10,8 @@ use Rattle.uv_report.specs.declared.completion.Completion.TheVariants.{Whole, Un
 use Rattle.uv_report.specs.declared.format.Format.{Format}
 use Rattle.uv_report.specs.declared.format.Format.TheVariants.{Gnu, Caret, Json, Github, Sarif, Checkstyle}
 use Rattle.uv_report.specs.declared.format.Format.TheVariants.{Junit, Gitlab, Rdjson}
+use Rattle.uv_report.specs.declared.look.Look.{Look}
+use Rattle.uv_report.specs.declared.look.Look.TheVariants.{Plain, Coloured}
 use Rattle.uv_sentences.specs.declared.line_violation.LineViolation.{LineViolation}
 use Rattle.uv_sentences.specs.declared.line_violation.LineViolation.TheVariants.{Refused, NotUtf8, TooLong, NotLocated}
 use Rattle.uv_sentences.specs.declared.located_fault.LocatedFault.TheVariants.{NoFile, NoLine, LineRange, NoColumn}
@@ -34,6 +36,10 @@ unit_of number =
     if number == 0 then Some CodePoints
     else (if number == 1 then Some Bytes
     else (if number == 2 then Some Utf16 else (if number == 3 then Some Screen else None)))
+
+-- the look by whether there are to be colours: not 0 for yes
+abbrev pub look_of : ℕ → Look
+look_of is_coloured = if is_coloured == 0 then Plain else Coloured
 
 -- the completion with a number
 abbrev pub completion_of : ℕ → Option Completion

@@ -53,12 +53,12 @@ abbrev pub LacksMemoryUnlessValid : Profile → Option Url → List ℕ → Find
 LacksMemoryUnlessValid profile base bytes finding =
     IsMemory finding × ¬ (IsValidWithoutMemory profile base (chars bytes))
 
--- the bytes of a text, or why they are none
+-- the bytes of a text, or why they aren't a text
 abbrev pub IsTextRead : CallOutcome → List ℕ → Result (Bor (List ℕ)) Finding → Type 0
 IsTextRead outcome bytes (Ok text) = (text.now ≡ bytes) × IsUtf8 bytes
 IsTextRead outcome bytes (Err finding) = IsNoText outcome bytes finding
 
--- the bytes of a base aren't UTF-8; otherwise they are refused alone, or memory ran out where their check asks for it
+-- the bytes of a base aren't UTF-8; otherwise they are refused, or memory ran out where their check asks for it
 abbrev pub IsNoBase : Profile → List ℕ → Finding → Type 0
 IsNoBase profile bytes finding =
     IsNoText BaseNoUtf8 bytes finding
@@ -70,12 +70,12 @@ pub record IsNoRecord (profile : Profile) (bytes : List ℕ) (finding : Finding)
   pub utf8 : IsUtf8 bytes
   pub lacks : LacksMemory profile None bytes finding
 
--- what the bytes of a base denote alone, or why they denote nothing
+-- what the bytes of a base denote by themselves, or why they denote nothing
 abbrev pub IsBaseRead : Profile → List ℕ → Result Url Finding → Type 0
 IsBaseRead profile bytes (Ok url) = IsUtf8 bytes × Denotes profile None (chars bytes) url
 IsBaseRead profile bytes (Err finding) = IsNoBase profile bytes finding ⊎ IsNoRecord profile bytes finding
 
--- there is no base, or its bytes denote the URL alone
+-- there is no base, or its bytes denote the URL by themselves
 abbrev pub IsBase : Profile → Option (List ℕ) → Option Url → Type 0
 IsBase profile None url = url ≡ None
 IsBase profile (Some bytes) None = ⊥
@@ -97,6 +97,12 @@ IsUnchecked number base bytes finding =
 abbrev pub IsNoRecordGiven : Profile → Option (List ℕ) → Finding → Type 0
 IsNoRecordGiven profile None finding = ⊥
 IsNoRecordGiven profile (Some bytes) finding = IsNoRecord profile bytes finding
+
+-- what the base that is given denotes by itself, or why its bytes denote nothing
+abbrev pub IsBaseGivenRead : Profile → Option (List ℕ) → Result (Option Url) Finding → Type 0
+IsBaseGivenRead profile base (Ok url) = IsBase profile base url
+IsBaseGivenRead profile base (Err finding) =
+    IsNoBaseGiven profile base finding ⊎ IsNoRecordGiven profile base finding
 
 -- the text isn't checked; or memory ran out before that, for the record of the base
 abbrev pub IsNoRequest : ℕ → Option (List ℕ) → List ℕ → Finding → Type 0

@@ -77,8 +77,7 @@ IsSpan bytes at mark (Some part) span =
     (span ≡ span_of at mark (Some part)) × (span.start + span.length ≤ length bytes)
     × (slice_range bytes span.start (span.start + span.length) ≡ encode_utf8_all part)
 
--- the spans are those of the parts, each after the one before, and the parts with their delimiters make up the whole
--- text
+-- the spans belong to the parts, each after the one before, and the parts with their delimiters make up the whole text
 pub record AreSpans (bytes : List ℕ) (parts : Parts) (spans : Spans) : Type 0 where
   pub scheme : IsSpan bytes 0 0 parts.scheme spans.scheme
   pub host : IsSpan bytes (host_at parts) 2 parts.host_text spans.host

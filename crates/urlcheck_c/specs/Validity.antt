@@ -24,7 +24,7 @@ IsValidityAnswer number base bytes answer =
     ⊎ ((profile : Profile) × (url : Option Url) × IsRequest number base bytes profile url
     × IsKnownValid profile url bytes answer)
 
--- what is answered against the base of a call; against one that isn't one under the profile the answer is no
+-- what is answered against the base of a call; against a base that the profile refuses, the answer is `no`
 pub record IsValidityTo (number : ℕ) (base : Option Base) (bytes : List ℕ) (answer : Bool) : Type 0 where
   pub made : (of : Option (List ℕ)) → IsMadeOf number base of → IsValidityAnswer number of bytes answer
   pub stray : IsStray number base → answer ≡ false

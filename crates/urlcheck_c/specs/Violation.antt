@@ -40,7 +40,7 @@ abbrev pub IsMessageGiven : List ℕ → List ℕ → Written → Type 0
 IsMessageGiven old new answer =
     ((said : List ℕ) × IsMessage said × IsTextGiven said old new answer) ⊎ IsRefusedFor Memory old new answer
 
--- nothing is said, and nothing was written; or what is reported of the text is given
+-- there is no report, and nothing was written; or the report on the text is given
 abbrev pub IsSentenceGiven : ℕ → Option Base → ℕ → ℕ → List ℕ → List ℕ → List ℕ → Written → Type 0
 IsSentenceGiven number base rule place bytes old new answer =
     ((finding : Finding) × IsNoViolation number base rule place bytes finding × IsUnwritten finding old new answer)

@@ -27,8 +27,8 @@ pub struct Answer {
     pub parts: Spans,
 }
 
-/// Whether the bytes are a valid URL string (URL Standard, section 4.3) under the profile with this number: alone, or
-/// if `has_base` is true against a base that `urlcheck_prepare` made under the same profile.
+/// Whether the bytes are a valid URL string (URL Standard, section 4.3) under the profile with this number, alone or
+/// against a base: if `has_base` is true, one that `urlcheck_prepare` made under the same profile.
 #[unsafe(no_mangle)]
 pub extern "C" fn urlcheck_check(
     alloc: Global,

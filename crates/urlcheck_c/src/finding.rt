@@ -13,9 +13,9 @@ use uv_text::count_code_points;
 #[repr(C)]
 #[derive(Clone, Copy)]
 pub struct Finding {
-    /// The number of the outcome: 0 valid, 1 refused, 2 no UTF-8, 3 the base is refused alone, 4 the base isn't UTF-8,
-    /// 5 out of memory, 6 no profile has the number, 7 no base of the profile, 8 the text violates a rule and a mended
-    /// text is given. include/urlcheck.h has the numbers of batches and reports, from 9 on; only that file has 18.
+    /// The number of the outcome: 0 valid, 1 refused, 2 no UTF-8, 3 the base is refused, 4 the base isn't UTF-8, 5 out
+    /// of memory, 6 no profile has the number, 7 no base of the profile, 8 the text violates a rule and a mended text
+    /// is given. include/urlcheck.h has the numbers of batches and reports, from 9 on; only that file has 18.
     pub verdict: u32,
     /// The number of the violated rule, from 1 to 14, if the text or the base is refused, otherwise 0.
     pub rule: u32,

@@ -29,8 +29,8 @@ pub struct Mended {
 }
 
 /// Writes a valid URL string in place of refused bytes, as `uv_mend` makes it of them, to the start of `out`, if it
-/// fits. Otherwise, and if there is none, `out` stays as it is. The bytes are read alone, or if `has_base` is true
-/// against the bytes of a base, which is checked by itself under the same profile.
+/// fits. Otherwise, and if there is none, `out` stays as it is. If `has_base` is true, they are read against the bytes
+/// of a base, which is checked by itself under the same profile.
 #[unsafe(no_mangle)]
 pub extern "C" fn urlcheck_mend(
     alloc: Global,

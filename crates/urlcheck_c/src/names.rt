@@ -5,12 +5,12 @@ ghost use Rattle.urlcheck_c.specs.Names.{rule_with_number};
 
 use uv_model::Rule;
 
-/// The version of the library, 0.4.0, as 10000 times its first number, 100 times its second and its third.
+/// The version of the library, 0.5.0, as 10000 times its first number, 100 times its second and its third.
 #[unsafe(no_mangle)]
 pub extern "C" fn urlcheck_version() -> u32
-    ensures { result ≡ 400 }
+    ensures { result ≡ 500 }
 {
-    400
+    500
 }
 
 /// The rule with this number.

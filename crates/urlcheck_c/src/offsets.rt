@@ -1,5 +1,5 @@
-//! Where texts begin and end that are one after another in a buffer: each begins at its offset and ends at the next
-//! one, so there is one offset more than there are texts.
+//! The places of texts that are one after another in a buffer: each begins at its offset and ends at the next one, so
+//! there is one offset more than there are texts.
 ghost use Rattle.std.specs.Prelude.{◌≡◌, ◌<◌, IsTrue, ◌↔◌, length};
 ghost use Rattle.urlcheck_c.specs.Offsets.{IsFirstWrong, IsRow, row_count, row_text};
 

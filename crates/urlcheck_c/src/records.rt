@@ -34,8 +34,8 @@ pub struct PlacedRecord {
 }
 
 /// Writes the text of the record that the bytes denote (URL Standard, sections 4.4 and 4.5) to the start of `out`, if
-/// it fits, and says where its parts are. Otherwise, and if the bytes denote none, `out` stays as it is. The bytes are
-/// read alone, or if `has_base` is true against the bytes of a base, which is checked by itself under the same profile.
+/// it fits, and says where its parts are. Otherwise, and if the bytes denote none, `out` stays as it is. If `has_base`
+/// is true, they are read against the bytes of a base, which is checked by itself under the same profile.
 #[unsafe(no_mangle)]
 pub extern "C" fn urlcheck_resolve(
     alloc: Global,

@@ -1,7 +1,7 @@
 //! What comes before and after the diagnostics of a report, and what its formats can do.
-ghost use Rattle.std.specs.Prelude.{◌≡◌, IfOk, string_bytes};
-ghost use Rattle.uv_report.specs.Report.{begin_text, file_begin_text, file_end_text};
-ghost use Rattle.urlcheck_c.specs.Report.{IsBeginAnswer, IsEndAnswer, IsFileBeginAnswer, IsFileEndAnswer};
+ghost use Rattle.std.specs.Prelude.{◌≡◌};
+ghost use Rattle.urlcheck_c.specs.Report.{IsBeginAnswer, IsBeginGiven, IsEndAnswer, IsFileBeginAnswer};
+ghost use Rattle.urlcheck_c.specs.Report.{IsFileBeginGiven, IsFileEndAnswer};
 ghost use Rattle.urlcheck_c.specs.Report.{shows_mended, takes_columns_of, takes_unit};
 ghost use Rattle.urlcheck_c.specs.ReportNumbers as spec;
 
@@ -10,13 +10,12 @@ pub(crate) mod fault_lists;
 pub(crate) mod messages;
 pub(crate) mod report_numbers;
 
-use crate::buffers::write_prefix;
-use crate::finding::{CallOutcome, Finding};
+use crate::finding::CallOutcome;
 use crate::reports::report_numbers::{completion_of, format_of, unit_of};
 use crate::request::text_of;
-use crate::written::{Written, given};
+use crate::written::{Written, text_given};
 use std::alloc::{AllocError, Global};
-use uv_report::{Columns, Format, end_of, push_begin, push_file_begin, push_file_end};
+use uv_report::{Columns, Format, begin_of, end_of, file_begin_of, file_end_of};
 
 /// Writes what a report begins with, in the format with this number and with columns in the unit with this number.
 #[unsafe(no_mangle)]
@@ -37,16 +36,17 @@ pub extern "C" fn urlcheck_report_begin(
     if !format.takes_columns(columns) {
         return Written::refused(CallOutcome::NoUnit);
     }
-    given(&begin(alloc, format, columns), out)
+    begin_given(alloc, format, columns, out)
 }
 
-// What a report begins with, as a text of its own.
-fn begin(alloc: Global, format: Format, columns: Columns) -> Result<String, AllocError>
-    ensures { IfOk result (λ text. string_bytes text ≡ begin_text format columns) }
+// Writes what a report begins with, for which only SARIF takes memory.
+fn begin_given(alloc: Global, format: Format, columns: Columns, out: &mut [u8]) -> Written
+    ensures { IsBeginGiven format columns out.old out.new result }
 {
-    let mut text = String::new(alloc);
-    push_begin(alloc, &mut text, format, columns)?;
-    Ok(text)
+    match begin_of(alloc, format, columns) {
+        Ok(text) => text_given(text.as_str(), out),
+        Err(AllocError) => Written::refused(CallOutcome::Memory),
+    }
 }
 
 /// Writes what comes before the diagnostics of a file.
@@ -63,38 +63,30 @@ pub extern "C" fn urlcheck_report_file_begin(
         return Written::refused(CallOutcome::NoFormat);
     };
     match text_of(file, CallOutcome::FileNoUtf8) {
-        Ok(file) => given(&file_begin(alloc, format, file), out),
+        Ok(file) => file_begin_given(alloc, format, file, out),
         Err(found) => Written::none(found),
     }
 }
 
-// What comes before the diagnostics of a file, as a text of its own.
-fn file_begin(alloc: Global, format: Format, file: &str) -> Result<String, AllocError>
-    ensures { IfOk result (λ text. string_bytes text ≡ file_begin_text format file.now) }
+// Writes what comes before the diagnostics of a file, for which only formats that write the file's name take memory.
+fn file_begin_given(alloc: Global, format: Format, file: &str, out: &mut [u8]) -> Written
+    ensures { IsFileBeginGiven format file.now out.old out.new result }
 {
-    let mut text = String::new(alloc);
-    push_file_begin(alloc, &mut text, format, file)?;
-    Ok(text)
-}
-
-/// Writes what comes after the diagnostics of a file.
-#[unsafe(no_mangle)]
-pub extern "C" fn urlcheck_report_file_end(alloc: Global, format: u32, out: &mut [u8]) -> Written
-    ensures { IsFileEndAnswer format out.old out.new result }
-{
-    match format_of(format) {
-        Some(format) => given(&file_end(alloc, format), out),
-        None => Written::refused(CallOutcome::NoFormat),
+    match file_begin_of(alloc, format, file) {
+        Ok(begin) => text_given(begin.as_str(), out),
+        Err(AllocError) => Written::refused(CallOutcome::Memory),
     }
 }
 
-// What comes after the diagnostics of a file, as a text of its own.
-fn file_end(alloc: Global, format: Format) -> Result<String, AllocError>
-    ensures { IfOk result (λ text. string_bytes text ≡ file_end_text format) }
+/// Writes what comes after the diagnostics of a file. It takes no memory.
+#[unsafe(no_mangle)]
+pub extern "C" fn urlcheck_report_file_end(format: u32, out: &mut [u8]) -> Written
+    ensures { IsFileEndAnswer format out.old out.new result }
 {
-    let mut text = String::new(alloc);
-    push_file_end(&mut text, format)?;
-    Ok(text)
+    match format_of(format) {
+        Some(format) => text_given(file_end_of(format), out),
+        None => Written::refused(CallOutcome::NoFormat),
+    }
 }
 
 /// Writes what a report ends with, by the number that says how the run over its files has ended. It takes no memory.
@@ -108,10 +100,7 @@ pub extern "C" fn urlcheck_report_end(format: u32, completion: u32, out: &mut [u
     let Some(completion) = completion_of(completion) else {
         return Written::refused(CallOutcome::NoCompletion);
     };
-    Written {
-        found: Finding::plain(CallOutcome::Done),
-        length: write_prefix(end_of(format, completion).as_bytes(), out),
-    }
+    text_given(end_of(format, completion), out)
 }
 
 /// Whether diagnostics of the format with this number say what to write in place of a text.

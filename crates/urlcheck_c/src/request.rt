@@ -1,7 +1,7 @@
 //! What a call asks for: a text, a base and a profile, read from what C gave.
 ghost use Rattle.std.specs.Prelude.{◌≡◌, option_copied};
 ghost use Rattle.urlcheck_c.specs.Finding.{profile_of};
-ghost use Rattle.urlcheck_c.specs.Request.{IsBaseRead, IsPrepared, IsTextRead, given};
+ghost use Rattle.urlcheck_c.specs.Request.{IsBaseGivenRead, IsBaseRead, IsPrepared, IsTextRead, given};
 
 use crate::ascii::ascii_text;
 use crate::finding::{CallOutcome, Finding};
@@ -34,17 +34,25 @@ pub(crate) fn prepared<'t>(
         return Err(Finding::plain(CallOutcome::NoProfile));
     };
     let text = text_of(text, CallOutcome::NoUtf8)?;
+    let base = base_read(alloc, base, profile)?;
+    Ok(Request {
+        text,
+        base,
+        profile,
+    })
+}
+
+/// What the bytes of a base by themselves denote, if there are any.
+pub(crate) fn base_read(
+    alloc: Global,
+    base: Option<&[u8]>,
+    profile: Profile,
+) -> Result<Option<Record>, Finding>
+    ensures { IsBaseGivenRead profile (option_copied base.entry) result }
+{
     match base {
-        Some(base) => Ok(Request {
-            text,
-            base: Some(base_of(alloc, base, profile)?),
-            profile,
-        }),
-        None => Ok(Request {
-            text,
-            base: None,
-            profile,
-        }),
+        Some(base) => Ok(Some(base_of(alloc, base, profile)?)),
+        None => Ok(None),
     }
 }
 
@@ -91,8 +99,8 @@ fn text_beyond_ascii(bytes: &[u8], fault: CallOutcome) -> Result<&str, Finding>
     }
 }
 
-/// What the bytes of a base by themselves denote.
-pub(crate) fn base_of(alloc: Global, base: &[u8], profile: Profile) -> Result<Record, Finding>
+// What the bytes of a base by themselves denote.
+fn base_of(alloc: Global, base: &[u8], profile: Profile) -> Result<Record, Finding>
     ensures { IsBaseRead profile base.now result }
 {
     let base = text_of(base, CallOutcome::BaseNoUtf8)?;

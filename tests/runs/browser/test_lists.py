@@ -192,7 +192,7 @@ class Lists(PageCase):
         package.__path__ = [os.path.join(TOP, "bindings", "python", "urlcheck")]
         sys.modules["urlcheck"] = package
         reader, source = (importlib.import_module("urlcheck." + it) for it in ("_readers.html_links", "_readers.source"))
-        wanted = [link.text for link in reader.links_of(source.Source(html))[0]]
+        wanted = [link.text for link in reader.links_of(source.Source(html)).links]
         self.assertEqual(links, wanted)
         self.assertGreater(len(wanted), 30)
         self.told = "{} links of all attributes".format(len(wanted))

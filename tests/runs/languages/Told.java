@@ -43,9 +43,9 @@ public final class Told {
         String says = " is found; -Durlcheck.library=FILE says where it is: ";
         isRefused(words[0], "no " + words[0] + says);
         isRefused(words[1], "no " + words[1] + says + words[4]);
-        isRefused(words[2], "liburlcheck 399 is no 400 to 499");
+        isRefused(words[2], "liburlcheck 399 isn't one of 500 to 599");
         System.setProperty("urlcheck.library", words[3]);
-        String unknown = "liburlcheck 432 ends with 77";
+        String unknown = "liburlcheck 532 ends with 77";
         Class<OutOfMemoryError> memory = OutOfMemoryError.class;
         ends(memory, "urlcheck: no memory is left", () -> ALONE.check("5"));
         ends(memory, "urlcheck: no memory is left", () -> ALONE.checkMany(Collections.singletonList("5")));

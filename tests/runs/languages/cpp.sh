@@ -81,7 +81,7 @@ int main() { return urlcheck::is_valid("http://h/") ? 0 : 1; }' >"$room/found.cp
         for target in urlcheck static; do
             cp "$room/found.cpp" "$room/cmake/"
             printf '%s\n' 'cmake_minimum_required(VERSION 3.13)' 'project(found CXX)' 'set(CMAKE_CXX_STANDARD 17)' \
-                'find_package(urlcheck 0.4 REQUIRED)' 'add_executable(found found.cpp)' \
+                'find_package(urlcheck 0.5 REQUIRED)' 'add_executable(found found.cpp)' \
                 "target_link_libraries(found urlcheck::$target)" >"$room/cmake/CMakeLists.txt"
             quiet "cmake with urlcheck::$target" cmake -S "$room/cmake" -B "$room/cmake/$target" \
                 -DCMAKE_PREFIX_PATH="$library"

@@ -62,7 +62,7 @@ if here Rust cargo && with Rust librust-serde-json-dev compgen -G "$registry/ser
         if env -u URLCHECK_LIB_DIR PKG_CONFIG_PATH= cargo build --offline >"$room/said" 2>&1; then
             pkg-config --exists urlcheck || fail 'no library at all'
         else
-            grep -qF "  URLCHECK_LIB_DIR isn't set, and pkg-config has no liburlcheck 0.4: " "$room/said" ||
+            grep -qF "  URLCHECK_LIB_DIR isn't set, and pkg-config has no liburlcheck 0.5: " "$room/said" ||
                 fail 'no word on a library that is missing'
         fi
         ! env -i PATH=/nonexistent "$(compgen -G "$room/shared/debug/build/urlcheck-*/build-script-build" | head -n 1)" \

@@ -9,7 +9,7 @@
 #include "urlcheck.h"
 
 #ifndef VERSION
-#define VERSION 432
+#define VERSION 532
 #endif
 
 enum { WRITTEN = 1000 };
@@ -90,9 +90,10 @@ void urlcheck_check_many_to(urlcheck_batch *answer, const uint8_t *texts, size_t
 }
 
 void urlcheck_resolve_many_to(urlcheck_batch *answer, const uint8_t *texts, size_t length, const uint64_t *offsets,
-                              size_t count, uint32_t profile, uint8_t *verdicts, uint8_t *rules, uint64_t *places,
-                              uint64_t *ends, uint8_t *out, size_t room) {
-    (void)ends, (void)out, (void)room;
+                              size_t count, uint32_t profile, const uint8_t *base, size_t base_length,
+                              uint8_t *verdicts, uint8_t *rules, uint64_t *places, uint64_t *ends, uint8_t *out,
+                              size_t room) {
+    (void)base, (void)base_length, (void)ends, (void)out, (void)room;
     urlcheck_check_many_to(answer, texts, length, offsets, count, profile, NULL, verdicts, rules, places);
 }
 

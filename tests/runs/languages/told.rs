@@ -10,7 +10,7 @@ fn said(call: fn()) -> String {
 fn main() {
     set_hook(Box::new(|_| ()));
     let unknown = said(|| drop(urlcheck::violations("77")));
-    assert_eq!(unknown, "liburlcheck 432 ends with 77, which no call of this crate brings about");
+    assert_eq!(unknown, "liburlcheck 532 ends with 77, which no call of this crate brings about");
     let ruled = said(|| drop(urlcheck::violations("1 15")));
     assert_eq!(ruled, "liburlcheck has a rule 15, which this crate doesn't know");
     // (after the colon come the bytes, in the words of Rust)

@@ -1,6 +1,6 @@
 /*
  * Checks and resolves the lines of a file by the calls for many texts, and compares each row with what a call on that text
- * alone says: batches FILE [time]. Then hands in what is wrong: each is an outcome of its own, and nothing is written. With
+ * says: batches FILE [time]. Then hands in what is wrong: each is an outcome of its own, and nothing is written. With
  * the word `time` it says how long a text takes by each call.
  */
 #include "urlcheck.h"
@@ -94,31 +94,41 @@ static void compare(const list *all, uint32_t profile, const urlcheck_base *base
     free(places);
 }
 
+static const char *const BASES[] = {
+    "http://h/a/b", "urn:a", "file:///x", "", "no base", "\xc3\xa9\xff", "http://h/\xc3\xa9 b",
+};
+
 /* Against a base of each profile, one that is refused, and one of zeros: only the first is one by this profile. */
 static void compare_bases(const list *all, uint32_t profile) {
-    static const char *const texts[] = {"http://h/a/b", "urn:a", "file:///x", "no base", "\xff"};
     static const urlcheck_base zeros;
     compare(all, profile, NULL);
     compare(all, profile, &zeros);
-    for (size_t at = 0; at < sizeof texts / sizeof *texts; at++) {
-        urlcheck_base base = urlcheck_prepare((const uint8_t *)texts[at], strlen(texts[at]), profile);
+    for (size_t at = 0; at < sizeof BASES / sizeof *BASES; at++) {
+        urlcheck_base base = urlcheck_prepare((const uint8_t *)BASES[at], strlen(BASES[at]), profile);
         compare(all, profile, &base);
         compare(all, (profile + 1) % 3, &base);
     }
 }
 
-static urlcheck_batch resolve_all(const list *all, uint32_t profile, uint8_t *verdicts, uint8_t *rules, uint64_t *places,
-                                  uint64_t *ends, uint8_t *out, size_t room) {
-    return urlcheck_resolve_many(all->texts, all->length, all->offsets, all->count, profile, verdicts, rules, places,
-                                 ends, out, room);
+/* How texts are resolved: by a profile, and against these bytes if they aren't null. */
+typedef struct {
+    uint32_t profile;
+    const uint8_t *base;
+    size_t base_length;
+} setting;
+
+static urlcheck_batch resolve_all(const list *all, const setting *by, uint8_t *verdicts, uint8_t *rules,
+                                  uint64_t *places, uint64_t *ends, uint8_t *out, size_t room) {
+    return urlcheck_resolve_many(all->texts, all->length, all->offsets, all->count, by->profile, by->base,
+                                 by->base_length, verdicts, rules, places, ends, out, room);
 }
 
 /* The columns and the text of a row have what urlcheck_resolve says of that text by itself. */
-static void compare_resolved_row(const list *all, size_t row, uint32_t profile, const uint8_t *written, size_t length,
+static void compare_resolved_row(const list *all, size_t row, const setting *by, const uint8_t *written, size_t length,
                                  urlcheck_finding found) {
     static uint8_t room[1 << 18];
     urlcheck_record alone = urlcheck_resolve(all->texts + all->offsets[row], all->offsets[row + 1] - all->offsets[row],
-                                             profile, NULL, 0, room, sizeof room);
+                                             by->profile, by->base, by->base_length, room, sizeof room);
     if (alone.length > sizeof room) fail("a text is too long for this run", row);
     if (found.verdict != alone.found.verdict || found.rule != alone.found.rule || found.place != alone.found.place) {
         fail("a row isn't the answer of resolve", row);
@@ -126,31 +136,31 @@ static void compare_resolved_row(const list *all, size_t row, uint32_t profile, 
     if (length != alone.length || (length && memcmp(written, room, length) != 0)) fail("another text of a record", row);
 }
 
-/* Each row is what urlcheck_resolve says of that text alone; the texts are written where they have exactly room. */
-static void compare_resolved(const list *all, uint32_t profile) {
+/* Each row is what urlcheck_resolve says of that text; the texts are written where they have exactly room. */
+static void compare_resolved(const list *all, const setting *by) {
     uint8_t *verdicts = taken(all->count, 1), *rules = taken(all->count, 1), small = 9;
     uint64_t *places = taken(all->count, sizeof *places), *ends = taken(all->count + 1, sizeof *ends);
-    urlcheck_batch asked = resolve_all(all, profile, NULL, NULL, NULL, NULL, NULL, 0);
+    urlcheck_batch asked = resolve_all(all, by, NULL, NULL, NULL, NULL, NULL, 0);
     uint8_t *out = taken(asked.length, 1);
-    if (asked.length && resolve_all(all, profile, NULL, NULL, NULL, ends, &small, 0).length != asked.length) {
+    if (asked.length && resolve_all(all, by, NULL, NULL, NULL, ends, &small, 0).length != asked.length) {
         fail("columns change the length", asked.length);
     }
     if (small != 9 || ends[all->count] != asked.length) fail("no end of the texts without room for them", 0);
     if (asked.length) {
         memset(out, 7, asked.length);
-        resolve_all(all, profile, NULL, NULL, NULL, NULL, out, asked.length - 1);
+        resolve_all(all, by, NULL, NULL, NULL, NULL, out, asked.length - 1);
         for (size_t at = 0; at < asked.length; at++) {
             if (out[at] != 7) fail("texts are written that don't fit", at);
         }
     }
-    urlcheck_batch answer = resolve_all(all, profile, verdicts, rules, places, ends, out, asked.length);
+    urlcheck_batch answer = resolve_all(all, by, verdicts, rules, places, ends, out, asked.length);
     size_t valid = 0;
     if (answer.outcome != URLCHECK_DONE || answer.row || answer.length != asked.length || ends[0] != 0) {
         fail("the texts aren't resolved", 0);
     }
     for (size_t row = 0; row < all->count; row++) {
         urlcheck_finding found = {verdicts[row], rules[row], (size_t)places[row], 0};
-        compare_resolved_row(all, row, profile, out + ends[row], (size_t)(ends[row + 1] - ends[row]), found);
+        compare_resolved_row(all, row, by, out + ends[row], (size_t)(ends[row + 1] - ends[row]), found);
         valid += found.verdict == URLCHECK_VALID;
     }
     if (answer.valid != valid || asked.valid != valid) fail("another count of texts that denote a record", valid);
@@ -159,6 +169,17 @@ static void compare_resolved(const list *all, uint32_t profile) {
     free(places);
     free(ends);
     free(out);
+}
+
+/* Alone, and against each base: of one that isn't valid each row says so. */
+static void compare_resolved_bases(const list *all, uint32_t profile) {
+    setting by = {profile, NULL, 0};
+    compare_resolved(all, &by);
+    for (size_t at = 0; at < sizeof BASES / sizeof *BASES; at++) {
+        by.base = (const uint8_t *)BASES[at];
+        by.base_length = strlen(BASES[at]);
+        compare_resolved(all, &by);
+    }
 }
 
 /* The refused lines, one after the other, are those that the check refuses. */
@@ -235,19 +256,23 @@ static void bad_resolving(void) {
     uint8_t column = 7, out[9];
     uint64_t ends[2] = {longest, longest};
     memset(out, 7, sizeof out);
-    urlcheck_batch answer = urlcheck_resolve_many(text, 9, offsets, 1, 0, &column, NULL, NULL, ends, out, 9);
+    urlcheck_batch answer = urlcheck_resolve_many(text, 9, offsets, 1, 0, NULL, 0, &column, NULL, NULL, ends, out, 9);
     if (answer.outcome != URLCHECK_NO_OFFSETS || answer.row || answer.length) fail("wrong offsets are resolved", 0);
-    answer = urlcheck_resolve_many(text, 9, whole, 1, 3, &column, NULL, NULL, ends, out, 9);
+    answer = urlcheck_resolve_many(text, 9, whole, 1, 3, NULL, 0, &column, NULL, NULL, ends, out, 9);
     if (answer.outcome != URLCHECK_NO_PROFILE) fail("texts are resolved by no profile", 3);
-    if (urlcheck_resolve_many(NULL, 9, whole, 1, 0, &column, NULL, NULL, ends, out, 9).outcome != URLCHECK_NULL ||
-        urlcheck_resolve_many(text, 9, NULL, 1, 0, &column, NULL, NULL, ends, out, 9).outcome != URLCHECK_NULL ||
-        urlcheck_resolve_many(text, 9, whole, 1, 0, &column, NULL, NULL, ends, NULL, 9).outcome != URLCHECK_NULL) {
-        fail("null is resolved", 0);
+    const urlcheck_batch null[] = {
+        urlcheck_resolve_many(NULL, 9, whole, 1, 0, NULL, 0, &column, NULL, NULL, ends, out, 9),
+        urlcheck_resolve_many(text, 9, NULL, 1, 0, NULL, 0, &column, NULL, NULL, ends, out, 9),
+        urlcheck_resolve_many(text, 9, whole, 1, 0, NULL, 9, &column, NULL, NULL, ends, out, 9),
+        urlcheck_resolve_many(text, 9, whole, 1, 0, NULL, 0, &column, NULL, NULL, ends, NULL, 9),
+    };
+    for (size_t at = 0; at < 4; at++) {
+        if (null[at].outcome != URLCHECK_NULL) fail("null is resolved", at);
     }
     is_untouched(&column, 1);
     is_untouched(out, sizeof out);
     if (ends[0] != longest || ends[1] != longest) fail("ends are written for bad input", 0);
-    answer = urlcheck_resolve_many(NULL, 0, NULL, 0, 0, NULL, NULL, NULL, ends, NULL, 0);
+    answer = urlcheck_resolve_many(NULL, 0, NULL, 0, 0, NULL, 0, NULL, NULL, NULL, ends, NULL, 0);
     if (answer.outcome != URLCHECK_DONE || answer.length || ends[0] != 0 || ends[1] != longest) fail("no texts", 0);
 }
 
@@ -291,7 +316,7 @@ int main(int count, char **words) {
     if (count > 2) say_time(&all);
     for (uint32_t profile = 0; profile < 3; profile++) {
         compare_bases(&all, profile);
-        compare_resolved(&all, profile);
+        compare_resolved_bases(&all, profile);
         walk(&all, profile);
     }
     bad_input();

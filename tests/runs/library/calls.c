@@ -113,7 +113,7 @@ static urlcheck_reported space(void) {
 }
 
 static urlcheck_written diagnostic(uint32_t format, const urlcheck_reported *it) {
-    return urlcheck_diagnostic(format, 1, it, out, sizeof out);
+    return urlcheck_diagnostic(format, 0, 1, it, out, sizeof out);
 }
 
 /* The formats in which an end or an edit is. */
@@ -160,8 +160,24 @@ static void diagnostics(void) {
     expect(place_of("\"suggestions\"", URLCHECK_RDJSON, &it) == -1, "no suggestion without a region");
     expect(place_of("\"mended\":\"http://h/a%20b\"", URLCHECK_JSON, &it) > 0, "a mended text without a region");
     urlcheck_written pointed;
-    urlcheck_diagnostic_to(&pointed, URLCHECK_GNU, 1, &it, out, sizeof out);
+    urlcheck_diagnostic_to(&pointed, URLCHECK_GNU, 0, 1, &it, out, sizeof out);
     gives(pointed, "a.md:3:15: error: U+0020 SPACE is not allowed in a URL [code-point]\n");
+}
+
+/* A text that isn't offered is in a note, but where the message says which part of the link is meant. */
+static void notes(void) {
+    urlcheck_reported it = space();
+    it.numbers.offered = 0;
+    expect(place_of("\nnote: the same URL, written validly, is http://h/a%20b\n", URLCHECK_CARET, &it) > 0, "a note");
+    it.numbers.place = 4;
+    SAYS(&it, text, "URL: https://example.com/ x");
+    expect(place_of("    ^\n", URLCHECK_CARET, &it) > 0, "a link after a space");
+    expect(place_of("note:", URLCHECK_CARET, &it) == -1, "no note of a link after a space");
+    SAYS(&it, text, "https://https//example.com/x");
+    expect(place_of("note:", URLCHECK_CARET, &it) == -1, "no note of two schemes");
+    expect(place_of("\"mended\":\"http://h/a%20b\"", URLCHECK_JSON, &it) > 0, "a mended text that is in no note");
+    it.numbers.offered = 1;
+    expect(place_of("\nhelp: write http://h/a%20b\n", URLCHECK_CARET, &it) > 0, "a text that is offered all the same");
 }
 
 /* A diagnostic in which a member has this value is refused so. */
@@ -208,7 +224,7 @@ static void bad_diagnostics(void) {
     REFUSES_WITH(kind, 4, URLCHECK_NO_KIND, "a diagnostic of no kind");
     REFUSES_WITH(place, 13, URLCHECK_NO_PLACE, "a diagnostic after the end");
     refuses(diagnostic(0, NULL), URLCHECK_NULL, "no diagnostic");
-    refuses(urlcheck_diagnostic(0, 1, &it, NULL, 9), URLCHECK_NULL, "a diagnostic into null");
+    refuses(urlcheck_diagnostic(0, 0, 1, &it, NULL, 9), URLCHECK_NULL, "a diagnostic into null");
 }
 
 static void rounds(void) {
@@ -512,6 +528,7 @@ int main(void) {
     messages();
     messages_against();
     diagnostics();
+    notes();
     bad_diagnostics();
     rounds();
     columns();

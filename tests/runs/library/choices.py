@@ -8,7 +8,7 @@ import sys
 import time
 import unittest
 
-from room import PROGRAM, Texts
+from room import PROGRAM, Room, Texts
 
 NO_USE = "--list checks nothing, so that --{} has no use"
 """What is said of an option beside --list."""
@@ -152,6 +152,24 @@ class Choices(Texts):
         seen = self.at_terminal("-q", "--format", "caret", "page.html")[1]
         self.assertIn("\nx:1:1: error: y [z]\n", seen)
         self.assertNotIn("\x1b[31m", seen)
+        # a difference isn't a report
+        self.assertNotIn("\x1b[", self.at_terminal("-q", "--color", "always", "--diff", "page.html")[1])
+
+    def test_colours_of_names(self):
+        name = "a: error: b.html"
+        self.write(name, '<a href="http://h/a b">\n<a href="https://https//h/">')
+        first = ("\x1b[1ma: error: b.html:1:20:\x1b[0m \x1b[1;31merror:\x1b[0m U+0020 SPACE is not allowed in a URL "
+                 "\x1b[2m[code-point]\x1b[0m\n")
+        second = ("\x1b[1ma: error: b.html:2:24:\x1b[0m \x1b[1;31merror:\x1b[0m the path begins with //; this has two schemes: "
+                  "write one of them \x1b[2m[first-segment-empty]\x1b[0m\n")
+        marked = ("http://h/a b\n\x1b[1;31m          ^\x1b[0m\n\x1b[36mhelp:\x1b[0m write http://h/a%20b\n",
+                  "https://https//h/\n\x1b[1;31m              ^\x1b[0m\n")
+        for form, wanted in (("gnu", first + second), ("caret", first + marked[0] + second + marked[1])):
+            self.assertEqual(self.run_on("-q", "--color", "always", "--format", form, name), (1, wanted, ""))
+        # programs read a name that isn't UTF-8 as it is, and people see U+FFFD
+        self.write(b"\xff.html", '<a href="http://h/a b">')
+        for words, shown in (([], b"\xff.html"), (["--color", "always"], "\x1b[1m\ufffd.html".encode())):
+            self.assertEqual(Room.run_on(self, "-q", *words, b"\xff.html")[1].split(b":1:20:")[0], shown)
 
     def test_progress(self):
         os.mkfifo(os.path.join(self.room, "slow.html"))

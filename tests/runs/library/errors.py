@@ -4,6 +4,7 @@ One sentence of the extension module has no test: that a fixed text of the libra
 of this library is."""
 
 import copy
+import ctypes
 import dataclasses
 import gc
 import json
@@ -13,9 +14,10 @@ import subprocess
 import sys
 import unittest
 import weakref
+from unittest import mock
 
 import urlcheck
-from urlcheck import _native
+from urlcheck import _many, _native
 
 ARGUMENTS = "(text, base=None, profile=None)"
 RAISES = """
@@ -43,11 +45,79 @@ def holding(held):
 
 def diagnosed(line=1, kind=0, file="f"):
     """What the extension module writes of a link by these words and numbers."""
-    return _native.diagnostic(0, True, (file, "percent", "", "m", "", "a", ""), (line, 1, 1, 2, 0, 0, 0, 0, 0, 0, kind, 0))
+    return _native.diagnostic(0, False, True, (file, "percent", "", "m", "", "a", ""), (line, 1, 1, 2, 0, 0, 0, 0, 0, 0, kind, 0))
 
 
 def against(base):
     return urlcheck.check("x", base)
+
+
+RELEASE = ctypes.CFUNCTYPE(None, ctypes.c_void_p)
+FILL = ctypes.CFUNCTYPE(ctypes.c_int, ctypes.c_void_p, ctypes.c_void_p)
+SAY = ctypes.CFUNCTYPE(ctypes.c_void_p, ctypes.c_void_p)
+
+
+class ArrowSchema(ctypes.Structure):
+    """The struct of Arrow's C data interface."""
+
+    _fields_ = [("format", ctypes.c_char_p), ("name", ctypes.c_char_p), ("metadata", ctypes.c_char_p), ("flags", ctypes.c_int64),
+                ("n_children", ctypes.c_int64), ("children", ctypes.c_void_p), ("dictionary", ctypes.c_void_p),
+                ("release", RELEASE), ("private_data", ctypes.c_void_p)]
+
+
+class ArrowArray(ctypes.Structure):
+    """The struct of Arrow's C data interface."""
+
+    _fields_ = [("length", ctypes.c_int64), ("null_count", ctypes.c_int64), ("offset", ctypes.c_int64), ("n_buffers", ctypes.c_int64),
+                ("n_children", ctypes.c_int64), ("buffers", ctypes.c_void_p), ("children", ctypes.c_void_p),
+                ("dictionary", ctypes.c_void_p), ("release", RELEASE), ("private_data", ctypes.c_void_p)]
+
+
+class ArrowStream(ctypes.Structure):
+    """The struct of Arrow's C stream interface."""
+
+    _fields_ = [("get_schema", FILL), ("get_next", FILL), ("get_last_error", SAY), ("release", RELEASE), ("private_data", ctypes.c_void_p)]
+
+
+class Stream:
+    """A stream of arrays without texts that is written in Python, and fails after them or ends."""
+
+    def __init__(self, arrays, fails):
+        self.arrays, self.fails = arrays, fails
+        self.said = ctypes.create_string_buffer(b"the disk is gone")
+        self.released = []
+        self.given = 0
+        self.held = (ctypes.c_void_p * 3)()
+        self.buffers = ctypes.addressof(self.held)
+        # (all that is called is held as long as the stream is)
+        self.calls = RELEASE(self.release_schema), RELEASE(self.release_array)
+        self.stream = ArrowStream(
+            FILL(self.schema), FILL(self.next), SAY(lambda _: ctypes.addressof(self.said)), RELEASE(lambda _: None), None
+        )
+
+    def schema(self, _, at):
+        ctypes.memmove(at, ctypes.byref(ArrowSchema(format=b"u", name=b"", release=self.calls[0])), ctypes.sizeof(ArrowSchema))
+        return 0
+
+    def next(self, _, at):
+        self.given += 1
+        if self.given > self.arrays:
+            return int(self.fails)
+        ctypes.memmove(at, ctypes.byref(ArrowArray(n_buffers=3, buffers=self.buffers, release=self.calls[1])), ctypes.sizeof(ArrowArray))
+        return 0
+
+    def release_schema(self, at):
+        self.released.append("schema")
+        ArrowSchema.from_address(at).release = RELEASE()
+
+    def release_array(self, at):
+        self.released.append("array")
+        ArrowArray.from_address(at).release = RELEASE()
+
+    def __arrow_c_stream__(self, requested_schema=None):
+        new = ctypes.pythonapi.PyCapsule_New
+        new.restype, new.argtypes = ctypes.py_object, [ctypes.c_void_p, ctypes.c_char_p, ctypes.c_void_p]
+        return new(ctypes.addressof(self.stream), b"arrow_array_stream", None)
 
 
 class Errors(unittest.TestCase):
@@ -114,6 +184,23 @@ class Errors(unittest.TestCase):
                 with self.assertRaises(error) as raised:
                     call()
                 self.assertEqual(str(raised.exception), said)
+
+    def test_a_stream_that_fails(self):
+        """Why a stream gives no more is said, though what is released then runs Python, and each thing is released once."""
+        stream = Stream(2, fails=True)
+        with self.assertRaises(ValueError) as raised:
+            urlcheck.check_many(stream)
+        self.assertEqual(str(raised.exception), "the stream is broken: the disk is gone")
+        self.assertEqual(sorted(stream.released), ["array", "array", "schema"])
+
+    def test_a_base_of_several_arrays(self):
+        """It is checked once for all of them."""
+        for call in (urlcheck.check_many, urlcheck.is_valid_many, urlcheck.resolve_many, urlcheck.mend_many):
+            stream = Stream(3, fails=False)
+            with self.subTest(call.__name__), mock.patch.object(_many, "Base", wraps=urlcheck.Base) as made:
+                call(stream, "http://h/")
+                made.assert_called_once_with("http://h/", None)
+            self.assertEqual(sorted(stream.released), ["array", "array", "array", "schema"])
 
     def test_help(self):
         self.assertEqual(_native.__doc__, "The library, called from Python.")
@@ -304,6 +391,17 @@ class Errors(unittest.TestCase):
                                     ("file", "\udcff", UnicodeEncodeError)):
             with self.subTest(field), self.assertRaises(error):
                 list(urlcheck.report([wrong._replace(**{field: value})]))
+
+    def test_notes(self):
+        for text, place, note in (
+            ("https://https//example.com/x", 14, ""), ("URL: https://example.com/ x", 4, ""),
+            ("https://h/ and more", 10, "note: the same URL, written validly, is https://h/%20and%20more\n"),
+        ):
+            refused, mended = urlcheck.check(text), urlcheck.mend(text)
+            self.assertEqual((refused.place, mended.is_offered), (place, False))
+            wrong = urlcheck.Diagnostic("a", 1, place + 1, text, refused.rule, place, mended=mended)
+            said = "".join(urlcheck.report([wrong], "caret"))
+            self.assertEqual(said.partition("\n")[2], text + "\n" + " " * place + "^\n" + note)
 
     def test_explanations(self):
         for rule in urlcheck.RULES:

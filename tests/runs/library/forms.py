@@ -9,7 +9,7 @@ import re
 import sys
 
 GUIDE = os.path.join(os.path.dirname(os.path.abspath(__file__)), "..", "..", "..", "docs", "guides", "forms.md")
-NEEDED = {"pydantic 2": ("pydantic",), "pydantic 1": ("pydantic",), "Django": ("django",), "Flask with WTForms": ("flask", "wtforms")}
+NEEDED = {"pydantic 2": ("pydantic",), "Django": ("django",), "Flask with WTForms": ("flask", "wtforms")}
 """The modules that the program of a section needs."""
 
 
@@ -17,9 +17,7 @@ def has(section):
     """Whether the program of a section can be run here."""
     if not all(map(importlib.util.find_spec, NEEDED[section])):
         return False
-    if not section.startswith("pydantic"):
-        return True
-    return importlib.import_module("pydantic").VERSION.partition(".")[0] == section[-1]
+    return not section.startswith("pydantic") or importlib.import_module("pydantic").VERSION.startswith("2.")
 
 
 def main():

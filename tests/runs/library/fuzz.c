@@ -87,7 +87,7 @@ static urlcheck_written written(int call, const numbers *it, uint8_t *out, size_
         case FILE_BEGIN: return urlcheck_report_file_begin(it->first, input, left, out, room);
         case FILE_END: return urlcheck_report_file_end(it->first, out, room);
         case END: return urlcheck_report_end(it->first, it->second, out, room);
-        default: return urlcheck_diagnostic(it->first, it->second, &it->reported, out, room);
+        default: return urlcheck_diagnostic(it->first, it->wording, it->second, &it->reported, out, room);
     }
 }
 
@@ -208,17 +208,21 @@ static void resolved_many(void) {
     uint8_t verdicts[4], none = 'x', one[2048];
     for (int i = 0; i < 5; i++) offsets[i] = number();
     uint32_t profile = (uint32_t)number() % 3;
-    urlcheck_batch asked = urlcheck_resolve_many(input, left, offsets, 4, profile, verdicts, NULL, NULL, ends, &none, 0);
+    const uint8_t *base = number() % 2 ? input : NULL;
+    size_t base_length = base ? left / 2 : 0;
+    urlcheck_batch asked = urlcheck_resolve_many(input, left, offsets, 4, profile, base, base_length, verdicts, NULL, NULL,
+                                                 ends, &none, 0);
     must(none == 'x');
     if (asked.outcome != URLCHECK_DONE) return;
     uint8_t *out = malloc(asked.length + 1);
     must(out != NULL);
     out[asked.length] = 0xFF;
-    urlcheck_batch made = urlcheck_resolve_many(input, left, offsets, 4, profile, NULL, NULL, NULL, NULL, out, asked.length);
+    urlcheck_batch made = urlcheck_resolve_many(input, left, offsets, 4, profile, base, base_length, NULL, NULL, NULL, NULL,
+                                                out, asked.length);
     must(made.length == asked.length && made.valid == asked.valid && out[asked.length] == 0xFF);
     for (int i = 0; i < 4; i++) {
         urlcheck_record found =
-            urlcheck_resolve(input + offsets[i], offsets[i + 1] - offsets[i], profile, NULL, 0, one, sizeof one);
+            urlcheck_resolve(input + offsets[i], offsets[i + 1] - offsets[i], profile, base, base_length, one, sizeof one);
         must(found.found.verdict == verdicts[i] && found.length == ends[i + 1] - ends[i] && found.length <= sizeof one);
         must(memcmp(one, out + ends[i], found.length) == 0);
     }

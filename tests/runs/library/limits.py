@@ -22,6 +22,9 @@ from urlcheck._streams import REASONS, reason_of
 
 PART = apart.Taken(documents=1, links=1, lines=bytearray(b"x" * 300_000))
 
+LATIN = "; if it is Latin-1: iconv -f ISO-8859-1 -t UTF-8 makes it UTF-8, and - reads what that writes"
+"""What is said of a document that isn't UTF-8 and names no encoding."""
+
 MEMORY_OF_LINKS = 120_000
 """How much memory, in KiB, the program has for 100,000 links, a report on which has 54 MB as SARIF."""
 
@@ -57,7 +60,7 @@ class Limits(Texts):
             self.write("a.html", data)
             for unit, place in zip(("code-points", "bytes", "utf16", "screen"), places):
                 with self.subTest(data=data, unit=unit):
-                    wanted = "urlcheck-documents: {}:" + place + ": this isn't UTF-8\n"
+                    wanted = "urlcheck-documents: {}:" + place + ": this isn't UTF-8" + LATIN + "\n"
                     for words in (["--list", "a.html"], ["a.html"], ["--type", "xml", "a.html"]):
                         found = self.run_on("-q", "--columns", unit, *words)
                         self.assertEqual(found, (2, "", wanted.format("a.html")))
@@ -65,7 +68,7 @@ class Limits(Texts):
                     self.assertEqual(found, (2, "", wanted.format("-")))
         self.write("b.html", "<a href=x>")
         counts = "urlcheck-documents: 1 document, 1 link, 0 ignored\n"
-        wanted = "urlcheck-documents: a.html:2:1: this isn't UTF-8\n" + counts
+        wanted = "urlcheck-documents: a.html:2:1: this isn't UTF-8" + LATIN + "\n" + counts
         self.assertEqual(self.run_on("--list", "a.html", "b.html"), (2, "b.html:1:9:x\n", wanted))
 
     def test_what_github_shows(self):
@@ -78,7 +81,7 @@ class Limits(Texts):
               "::error file=missing.html,title=not-read::can't be read: there is no such file",
               "::error file=broken.xml,line=2,col=15,title=code-point::U+0020 SPACE is not allowed in a URL",
               "::error file=broken.xml,line=2,col=28,title=not-read::can't be read from here on: mismatched tag",
-              "::error file=c.html,line=2,col=1,title=not-read::this isn't UTF-8",
+              "::error file=c.html,line=2,col=1,title=not-read::this isn't UTF-8" + LATIN,
               "::error file=100%25,title=not-read::has no document: no name in this folder ends in .html, "]
         status, out, said = self.run_on("-q", "--format", "github", "a,b.html", "missing.html", "broken.xml",
                                         "c.html", "100%")
@@ -109,7 +112,7 @@ class Limits(Texts):
             ("<!--" + " " * 1000 + "--><meta charset=latin1>\xe9", "1:1029", None),
             ("<meta charset='\x1b[31m'>\xe9", "1:23", None),
         ):
-            wanted = ":{}: this isn't UTF-8{}\n".format(place, remedy.format(encoding) if encoding else "")
+            wanted = ":{}: this isn't UTF-8{}\n".format(place, remedy.format(encoding) if encoding else LATIN)
             with self.subTest(text):
                 self.write("a.html", text.encode("latin-1"))
                 self.assertEqual(self.run_on("--list", "-q", "a.html"), (2, "", "urlcheck-documents: a.html" + wanted))
@@ -130,6 +133,8 @@ class Limits(Texts):
         self.assertEqual(self.run_on("--list", "--quiet", "a.xml"), (2, "", "urlcheck-documents: a.xml: " + wanted))
         status, out, said = self.run_on("--list", "--quiet", "--type", "xml", "-", stdin=packed)
         self.assertEqual((status, out, said), (2, "", "urlcheck-documents: standard input: " + wanted))
+        self.write("a.html.gz", packed)
+        self.assertEqual(self.run_on("--quiet", "a.html.gz"), (2, "", "urlcheck-documents: a.html.gz: " + wanted))
         wanted = "urlcheck-documents: {}: can't be read: there is no such file{}\n"
         for name, more in (("https://h/a", ", and no URL is fetched"), ("file://h/a.html", ", and no URL is fetched"),
                            ("http:a.html", ""), ("h/a.html", "")):
@@ -428,7 +433,7 @@ class Limits(Texts):
         said = "urlcheck-documents: d/{}\n"
         faults = [said.format(it) for it in (
             "0a.html: needs more than 160 MiB of memory to read",
-            "2a.html: takes more than 2 seconds of processor time to read", "3a.html:2:1: this isn't UTF-8",
+            "2a.html: takes more than 2 seconds of processor time to read", "3a.html:2:1: this isn't UTF-8" + LATIN,
             "4a.xml:2:28: can't be read from here on: mismatched tag",
             "5a.html: takes more than 2 seconds of processor time to read",
         )] + ["urlcheck-documents: 1a.html: takes more than 2 seconds to read\n"]
@@ -503,8 +508,7 @@ class Limits(Texts):
         folder = os.path.dirname(os.path.dirname(urlcheck.__file__))
         first = "sys.path.remove(''); sys.path.append({!r}); ".format(folder)
         checks = first + "from urlcheck._editors import checking as it; from urlcheck._documents.configuration import NONE; "
-        checks += "from urlcheck._documents.effective import effective; counts = effective(NONE, NONE); "
-        checks += "asked = it.Asked('a.md', '[a](b c)', 'markdown', 'utf-16', counts); "
+        checks += "asked = it.Asked('a.md', '[a](b c)', 'markdown', 'utf-16', NONE); "
         checks += "print(len(it.Checking().check(asked, lambda: False).remarks))"
         reads = first + "from urlcheck import documents; sys.argv[1:] = ['--list', '-q', 'a.html']; "
         reads += "documents.main()"

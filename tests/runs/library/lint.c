@@ -1,6 +1,6 @@
 /*
- * Reports on the lines of a file as `urlcheck lint` does, only by the library's calls: lint FILE NAME FORMAT UNIT, the
- * last two by their numbers. Each text is asked for with no room, with one byte too few and with exactly its room.
+ * Reports on the lines of a file as `urlcheck lint` does, only by the library's calls: lint FILE NAME FORMAT UNIT COLOURED,
+ * the last three by their numbers. Each text is asked for with no room, with one byte too few and with exactly its room.
  */
 #include "urlcheck.h"
 
@@ -8,7 +8,7 @@
 #include <stdlib.h>
 #include <string.h>
 
-static uint32_t format, unit;
+static uint32_t format, unit, is_coloured;
 static const char *name;
 
 static void fail(const char *what) {
@@ -39,7 +39,7 @@ static urlcheck_written written(const asked *it, uint8_t *out, size_t room) {
         case MESSAGE:
             return urlcheck_message(of->text, of->text_length, URLCHECK_STANDARD, NULL, URLCHECK_WORDING_OPTIONS,
                                     it->rule, of->numbers.place, out, room);
-        default: return urlcheck_diagnostic(format, it->is_first, of, out, room);
+        default: return urlcheck_diagnostic(format, is_coloured, it->is_first, of, out, room);
     }
 }
 
@@ -161,10 +161,11 @@ static void report(const uint8_t *text, size_t length, uint64_t line, int *is_fi
 }
 
 int main(int count, char **words) {
-    if (count != 5) fail("usage: lint FILE NAME FORMAT UNIT");
+    if (count != 6) fail("usage: lint FILE NAME FORMAT UNIT COLOURED");
     name = words[2];
     format = (uint32_t)atoi(words[3]);
     unit = (uint32_t)atoi(words[4]);
+    is_coloured = (uint32_t)atoi(words[5]);
     FILE *file = fopen(words[1], "rb");
     if (!file || fseek(file, 0, SEEK_END) != 0) fail("the file can't be opened");
     size_t length = (size_t)ftell(file);

@@ -1,7 +1,7 @@
 /*
  * Each allocation of a call is refused in turn, by a malloc and a realloc that count: the call then says so, gives back
- * all that it took, and doesn't touch the caller's buffer. Then come all the faults of units repeated a million times,
- * and last a text of 100 MB. Linked with --wrap of malloc, realloc and free.
+ * all that it took, and doesn't touch the caller's buffer. What is empty, fixed or refused asks for none. Then come all
+ * the faults of units repeated a million times, and last a text of 100 MB. Linked with --wrap of malloc, realloc and free.
  */
 #include "urlcheck.h"
 
@@ -67,7 +67,7 @@ static uint32_t diagnostic(uint32_t format, uint8_t *out, size_t room) {
     it.rule = (const uint8_t *)rule, it.rule_length = sizeof rule - 1;
     it.message = (const uint8_t *)message, it.message_length = sizeof message - 1;
     it.text = (const uint8_t *)WRONG, it.text_length = sizeof WRONG - 1;
-    return urlcheck_diagnostic(format, 1, &it, out, room).found.verdict;
+    return urlcheck_diagnostic(format, 1, 1, &it, out, room).found.verdict;
 }
 
 /* The verdict against a base that is prepared, by the check and by all the faults. */
@@ -118,8 +118,8 @@ static uint32_t call(int kind, uint8_t *out, size_t room) {
     case 16: {
         const uint64_t offsets[] = {0, sizeof TEXT - 1};
         uint8_t verdict = URLCHECK_DONE;
-        uint32_t outcome = urlcheck_resolve_many(text, length, offsets, 1, URLCHECK_STANDARD, &verdict, NULL, NULL,
-                                                 NULL, out, room)
+        uint32_t outcome = urlcheck_resolve_many(text, length, offsets, 1, URLCHECK_STANDARD, base, base_length, &verdict,
+                                                 NULL, NULL, NULL, out, room)
                                .outcome;
         return outcome == URLCHECK_DONE ? verdict : outcome;
     }
@@ -127,7 +127,6 @@ static uint32_t call(int kind, uint8_t *out, size_t room) {
     case 18: return diagnostic(URLCHECK_GITLAB, out, room);
     case 19: return diagnostic(URLCHECK_RDJSON, out, room);
     case 20: return urlcheck_report_file_begin(URLCHECK_JUNIT, base, base_length, out, room).found.verdict;
-    case 21: return urlcheck_report_begin(URLCHECK_RDJSON, URLCHECK_BYTES, out, room).found.verdict;
     default:
         return urlcheck_mend(mendable, mendable_length, URLCHECK_WIDE, base, base_length, out, room)
             .found.verdict;
@@ -139,7 +138,7 @@ static uint32_t wanted(int kind) {
     if (kind < 4) return URLCHECK_VALID;
     if (kind < 6) return URLCHECK_REFUSED;
     if (kind == 6 || (kind >= 13 && kind <= 16)) return URLCHECK_VALID;
-    return kind < 22 ? URLCHECK_DONE : URLCHECK_MENDED;
+    return kind < 21 ? URLCHECK_DONE : URLCHECK_MENDED;
 }
 
 static void refuse_each(int kind) {
@@ -162,6 +161,36 @@ static void refuse_each(int kind) {
         expect(memcmp(out, blank, sizeof out) == 0, "the buffer was written to");
     }
     expect(0, "no end of allocations");
+}
+
+/* This was answered, and no allocation was asked for. */
+static void is_without_memory(uint32_t verdict, uint32_t wanted) {
+    expect(until == 0, "an allocation for what takes none");
+    expect(verdict == wanted, "another verdict without memory");
+}
+
+/* What is empty, fixed or refused takes no memory. */
+static void take_none(void) {
+    const uint8_t *file = (const uint8_t *)BASE, *text = (const uint8_t *)WRONG;
+    size_t length = sizeof BASE - 1;
+    uint8_t out[ROOM];
+    until = 0;
+    for (uint32_t format = URLCHECK_GNU; format <= URLCHECK_RDJSON; format++) {
+        uint32_t unit = format == URLCHECK_RDJSON ? URLCHECK_BYTES : URLCHECK_CODE_POINTS;
+        is_without_memory(urlcheck_report_file_end(format, out, ROOM).found.verdict, URLCHECK_DONE);
+        is_without_memory(urlcheck_report_end(format, URLCHECK_WHOLE, out, ROOM).found.verdict, URLCHECK_DONE);
+        if (format != URLCHECK_SARIF)
+            is_without_memory(urlcheck_report_begin(format, unit, out, ROOM).found.verdict, URLCHECK_DONE);
+        if (format != URLCHECK_CHECKSTYLE && format != URLCHECK_JUNIT)
+            is_without_memory(urlcheck_report_file_begin(format, file, length, out, ROOM).found.verdict, URLCHECK_DONE);
+        is_without_memory(diagnostic(format + 9, out, ROOM), URLCHECK_NO_FORMAT);
+    }
+    is_without_memory(urlcheck_message(text, 3, 0, NULL, 0, 1, 4, out, ROOM).found.verdict, URLCHECK_NO_PLACE);
+    is_without_memory(urlcheck_message(text, 3, 0, NULL, 0, 0, 3, out, ROOM).found.verdict, URLCHECK_NO_RULE);
+    is_without_memory(urlcheck_message(text, 3, 0, NULL, 4, 1, 3, out, ROOM).found.verdict, URLCHECK_NO_WORDING);
+    is_without_memory(urlcheck_mend(file, 9, 0, NULL, 0, out, ROOM).found.verdict, URLCHECK_NO_UTF8);
+    until = -1;
+    printf("library: what is empty, fixed or refused takes no memory\n");
 }
 
 /* A unit a million times between two texts: where its first fault is, its rule, how many code points lie between two of
@@ -248,7 +277,8 @@ static void check_100_mb(void) {
 }
 
 int main(void) {
-    for (int kind = 0; kind < 23; kind++) refuse_each(kind);
+    for (int kind = 0; kind < 22; kind++) refuse_each(kind);
+    take_none();
     list_faults();
     check_100_mb();
     return failed;

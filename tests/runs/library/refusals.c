@@ -114,8 +114,9 @@ static void batches_by_none(uint32_t profile) {
         says_no_more(is_no_batch(urlcheck_check_many(texts, 12, offsets, count, profile, &base, room.verdicts,
                                                      room.rules, room.places)),
                      "check_many against a base by no profile");
-        says_no_more(is_no_batch(urlcheck_resolve_many(texts, 12, offsets, count, profile, room.verdicts, room.rules,
-                                                       room.places, room.ends, room.bytes, sizeof room.bytes)),
+        says_no_more(is_no_batch(urlcheck_resolve_many(texts, 12, offsets, count, profile, NULL, 0, room.verdicts,
+                                                       room.rules, room.places, room.ends, room.bytes,
+                                                       sizeof room.bytes)),
                      "resolve_many by no profile");
     }
 }

@@ -196,6 +196,46 @@ class Words(Texts):
                 with self.subTest(name):
                     self.assertNotIn("there is no option", self.run_on(name)[2])
 
+    def test_what_other_options_are_here(self):
+        """Each option of other tools, and what to write here."""
+        none = "no link is fetched: only how it is written is checked"
+        for names, said in (
+            ("--fix-only --write -w", "--fix mends the links for which a text is offered"),
+            ("--dry-run --fix-dry-run", "--diff shows what --fix would write"),
+            ("--extend-select --rule", "--select RULES reports violations of these rules only"),
+            ("--extend-ignore --disable", "--ignore RULES leaves out violations of these rules"),
+            ("--ignore-pattern --ignore-url --ignore-urls", "--ignore FILE leaves out links by regular expressions"),
+            ("--include --skip", "--exclude PATTERN leaves out files and folders"),
+            ("-r -R --recursive", "a folder is read with all folders in it"),
+            ("--output-format --reporter --formatter", "write --format FORMAT"),
+            ("--json", "write --format json"),
+            ("--sarif", "write --format sarif"),
+            ("--colour --no-color --no-colour --colors --colours", "--color WHEN takes auto, always and never"),
+            ("-v --verbose", "--format caret shows each link, and --version the version"),
+            ("--debug --explain --show-source", "--format caret shows each link; urlcheck explain RULE explains a rule"),
+            ("-s --silent", "--quiet leaves out the counts"),
+            ("-o --output-file", "write --output FILE"),
+            ("--stats --count --summary", "write --statistics"),
+            ("--no-fail", "write --exit-zero"),
+            ("--max-warnings --severity --minAlertLevel", "each refused link is an error"),
+            ("-j --threads --parallel", "write --jobs N"),
+            ("--watch", "the language server checks while a document is edited"),
+            ("--cache --no-cache", "each run reads all, and needs no cache"),
+            ("-c --config --rcfile", "a configuration is found by its name: .urlcheck.toml or pyproject.toml"),
+            ("--isolated --norc", "write --no-config"),
+            ("--timeout --offline --online --retries --max-retries --max-redirects --recursion-level", none),
+            ("--user-agent --method --insecure --accept --check-extern --disable-external --external", none),
+            ("--wide", "write --profile wide"),
+            ("--strict", "the standard profile is the strictest, and the one without --profile"),
+            ("--list-rules --show-rules --rules", "urlcheck explain explains every rule"),
+            ("--all", "pipe the links, which --list prints, into urlcheck lint --located --all -"),
+            ("--base-url", "--base URL is what relative links are resolved against"),
+            ("--stdin", "- in place of a document's name is standard input"),
+            ("--stdin-filename --stdin-display-name", "--stdin-name NAME names standard input"),
+        ):
+            for name in names.split():
+                self.assertEqual(habit(name), said, name)
+
     def test_shortened_options(self):
         """An option is written whole: a beginning of its name isn't one."""
         self.write("a.html", "<a href='x y'>")
@@ -253,10 +293,12 @@ class Words(Texts):
             wanted = "urlcheck-documents: {}\n".format(wanted.format(name))
             self.assertEqual((status, out, said), (2, "a.html:1:10:x y\n", wanted))
         no_kind = "{}: it has no known file extension: give --type html, xml, markdown or another kind"
+        template = "{}: it has no known file extension: --type html reads it as a page of HTML"
         more = "; urlcheck lint checks a list of links"
         for name, wanted in (
             ("l.txt", no_kind + more), ("l.csv", no_kind + more), ("l.TSV", no_kind + more), ("l.text", no_kind),
             ("a.b.json", no_kind + more), ("x.links", no_kind + more), ("txt.d", no_kind), ("check", no_kind),
+            ("page.php", template), ("a.html.J2", template),
         ):
             self.write(name, "a b\n")
             for words in (["--list", "-q", name], ["-q", name]):

@@ -3,6 +3,3 @@
 
 CREATE FUNCTION url_mend_offered(url text, base text DEFAULT NULL, profile text DEFAULT 'standard') RETURNS boolean
     AS 'MODULE_PATHNAME', 'pg_url_mend_offered' LANGUAGE C IMMUTABLE PARALLEL SAFE COST 5;
-
--- Another library may have another version, which an index is not to hold.
-ALTER FUNCTION urlcheck_version() STABLE;

@@ -8,12 +8,12 @@ ghost use Rattle.urlcheck_c.specs.Diagnostic as spec;
 
 use crate::columns::is_in_range;
 use crate::finding::{CallOutcome, Finding};
-use crate::reports::report_numbers::{format_of, kind_of};
+use crate::reports::report_numbers::{format_of, kind_of, look_of};
 use crate::request::text_of;
 use crate::written::{Written, given};
 use std::alloc::{AllocError, Global};
-use uv_report::{Diagnostic, Fix, Format, Region, push};
-use uv_sentences::SeenText;
+use uv_report::{Diagnostic, Fix, Format, Look, Region, push};
+use uv_sentences::{SeenText, is_named};
 use uv_text::count_code_points;
 
 /// The numbers of a diagnostic.
@@ -47,11 +47,13 @@ pub(crate) struct ReportedTexts<'t> {
 }
 
 /// Writes a diagnostic on a text in the file with this name, in the format with this number: the name of a rule, the
-/// address of its page, which may be empty, what is wrong, and where in the file that is, which may be empty too.
+/// address of its page, which may be empty, what is wrong, and where in the file that is, which may be empty too. The
+/// formats that people read have colours if that is asked for.
 #[unsafe(no_mangle)]
 pub extern "C" fn urlcheck_diagnostic(
     alloc: Global,
     format: u32,
+    is_coloured: u32,
     is_first: u32,
     numbers: &ReportedNumbers,
     file: &[u8],
@@ -63,7 +65,7 @@ pub extern "C" fn urlcheck_diagnostic(
     fix: &[u8],
     out: &mut [u8],
 ) -> Written
-    ensures { IsDiagnosticAnswer format is_first numbers.now (record {
+    ensures { IsDiagnosticAnswer format is_coloured is_first numbers.now (record {
       file = file.now;
       rule = rule.now;
       uri = uri.now;
@@ -85,19 +87,21 @@ pub extern "C" fn urlcheck_diagnostic(
         text,
         fix,
     };
-    written(alloc, format, is_first != 0, numbers, texts, out)
+    let look = look_of(is_coloured);
+    written(alloc, format, look, is_first != 0, numbers, texts, out)
 }
 
 // Writes the diagnostic that the numbers and the texts describe, or says why they describe none.
 fn written(
     alloc: Global,
     format: Format,
+    look: Look,
     is_first: bool,
     numbers: &ReportedNumbers,
     texts: ReportedTexts<'_>,
     out: &mut [u8],
 ) -> Written
-    ensures { spec.IsReportedAnswer format is_first numbers.now (texts_view texts.entry) out.old out.new result }
+    ensures { spec.IsReportedAnswer format look is_first numbers.now (texts_view texts.entry) out.old out.new result }
 {
     let text = match text_found(texts.text, numbers.place) {
         Ok(text) => text,
@@ -105,7 +109,7 @@ fn written(
     };
     let seen = SeenText::new(text);
     match diagnostic_read(numbers, texts, &seen) {
-        Ok(diagnostic) => given(&said(alloc, format, &diagnostic, is_first), out),
+        Ok(diagnostic) => given(&said(alloc, format, look, &diagnostic, is_first), out),
         Err(found) => Written::none(found),
     }
 }
@@ -114,18 +118,19 @@ fn written(
 fn said(
     alloc: Global,
     format: Format,
+    look: Look,
     diagnostic: &Diagnostic<'_>,
     is_first: bool,
 ) -> Result<String, AllocError>
     ensures { IfOk result (λ text. string_bytes text
-        ≡ diagnostic_text format is_first (diagnostic_view diagnostic.now)) }
+        ≡ diagnostic_text format look is_first (diagnostic_view diagnostic.now)) }
 {
     let mut text = String::new(alloc);
-    push(alloc, &mut text, format, diagnostic, is_first)?;
+    push(alloc, &mut text, format, look, diagnostic, is_first)?;
     Ok(text)
 }
 
-// The text that is wrong at a place, or why these are none.
+// The text that is wrong at a place, or why there isn't one.
 fn text_found<'t>(bytes: &'t [u8], place: usize) -> Result<&'t str, Finding>
     ensures { IsTextFound bytes.now place result }
 {
@@ -152,7 +157,7 @@ fn diagnostic_read<'t>(
     if !is_region(numbers.region) {
         return Err(Finding::plain(CallOutcome::NoColumn));
     }
-    let fix = fix_read(numbers, texts.fix)?;
+    let fix = fix_read(numbers, texts.fix, text)?;
     Ok(Diagnostic {
         file,
         region: numbers.region,
@@ -167,8 +172,12 @@ fn diagnostic_read<'t>(
     })
 }
 
-// What to write in place of the text, if the numbers say so; or why they are wrong.
-fn fix_read<'t>(numbers: &ReportedNumbers, fix: &'t [u8]) -> Result<Option<Fix<'t>>, Finding>
+// What to write in place of this text, if the numbers say so; or why they are wrong.
+fn fix_read<'t>(
+    numbers: &ReportedNumbers,
+    fix: &'t [u8],
+    refused: &SeenText<'_>,
+) -> Result<Option<Fix<'t>>, Finding>
     ensures { IsFixRead numbers.now fix.now result }
 {
     if numbers.kind == 0 {
@@ -184,10 +193,11 @@ fn fix_read<'t>(numbers: &ReportedNumbers, fix: &'t [u8]) -> Result<Option<Fix<'
         text,
         kind,
         is_offered: numbers.offered != 0,
+        is_named: is_named(refused),
     }))
 }
 
-// Where a fix may be written, if anywhere; or why the region isn't one.
+// The region where a fix may be written, if there is one, or why the numbers aren't a region.
 fn fix_region_read(region: Region) -> Result<Option<Region>, Finding>
     ensures { IsFixRegionRead region result }
 {

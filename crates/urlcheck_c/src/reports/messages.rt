@@ -24,8 +24,8 @@ pub(crate) struct FoundViolation<'t> {
 }
 
 /// Writes the sentence on a violation of a text by a profile, alone or against a base as `urlcheck_check` has it, at a
-/// place in code points, without its full stop: what compilers print after `error: `. The wording is one of four, by its
-/// number.
+/// place in code points, without its full stop: what compilers print after `error: `. The wording is one of four, by
+/// its number.
 #[unsafe(no_mangle)]
 pub extern "C" fn urlcheck_message(
     alloc: Global,
@@ -59,8 +59,8 @@ fn wording_of(number: u32) -> Wording {
     }
 }
 
-// What is wrong with the bytes of a text, by the numbers of a profile and of a rule of texts or of lines, at a place; or
-// why these numbers don't say it.
+// What is wrong with the bytes of a text, by the numbers of a profile and of a rule of texts or of lines, at a place;
+// or why these numbers don't say it.
 fn violation_read<'t>(
     text: &'t [u8],
     profile: u32,
@@ -128,7 +128,7 @@ fn accepting_profile(
     }
 }
 
-// The same against a base of this kind: by each wider profile the base denotes what it does by its own.
+// The same against a base of this kind: under a wider profile the base denotes the same URL as under its own.
 fn profile_against(
     alloc: Global,
     text: &str,

@@ -4,7 +4,7 @@ ghost use Rattle.urlcheck_c.specs.ReportNumbers as spec;
 
 use crate::names::rule_of;
 use uv_model::{MendKind, Refusal};
-use uv_report::{Columns, Completion, Format};
+use uv_report::{Columns, Completion, Format, Look};
 use uv_sentences::{LineViolation, LocatedFault};
 
 /// The format with this number.
@@ -35,6 +35,17 @@ pub(crate) fn unit_of(number: u32) -> Option<Columns>
         2 => Some(Columns::Utf16),
         3 => Some(Columns::Screen),
         _ => None,
+    }
+}
+
+/// The look by whether there are to be colours: not 0 for yes.
+pub(crate) fn look_of(is_coloured: u32) -> Look
+    ensures { result ≡ spec.look_of is_coloured }
+{
+    if is_coloured == 0 {
+        Look::Plain
+    } else {
+        Look::Coloured
     }
 }
 

@@ -1,4 +1,4 @@
--- The verdict is that alone, or against each base of the kind.
+-- The verdict is given without a base, or against each base of the kind.
 use Rattle.std.proofs.Common.{None, Option, subst, sym}
 use Rattle.std.specs.Prelude.{IfOk, IsOk}
 use Rattle.std.specs.Str.{chars}

@@ -1,4 +1,4 @@
--- What is told of the text is that of the URL that is laid out so.
+-- The answer about the text fits the URL that is laid out so.
 use Rattle.std.proofs.Common.{◌≡◌, ◌∙◌, Bool, true, false, List, ℕ, ap, length, refl, subst, sym}
 use Rattle.std.specs.Int.{from_bool}
 use Rattle.uv_resolve.specs.declared.layout.UrlLayout.{UrlLayout}

@@ -1,4 +1,4 @@
--- The faults are those alone, or against each base of the kind.
+-- The faults are found without a base, or against each base of the kind.
 use Rattle.std.proofs.Common.{Option, subst, sym}
 use Rattle.std.specs.Prelude.{IfOk}
 use Rattle.std.specs.Str.{chars}

@@ -1,4 +1,4 @@
--- The faults are those of the text's bytes, and the base is what the bytes that it was made of denote.
+-- The faults are found in the text's bytes, and the base is what the bytes that it was made of denote.
 use Rattle.std.proofs.Common.{ℕ, List, ap, inl, inr, refl, subst, sym}
 use Rattle.std.specs.Prelude.{Err, Ok, Option}
 use Rattle.urlcheck_c.specs.declared.bases.Base.{Base}

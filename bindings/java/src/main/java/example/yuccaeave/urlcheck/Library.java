@@ -21,8 +21,8 @@ abstract class Library {
         if (loaded == null) {
             String file = System.getProperty(FILE);
             Library library = Bridge.load(file != null ? file : usualName());
-            if (library.version() / 100 != 4) {
-                throw new UnsatisfiedLinkError("liburlcheck " + library.version() + " is no 400 to 499");
+            if (library.version() / 100 != 5) {
+                throw new UnsatisfiedLinkError("liburlcheck " + library.version() + " isn't one of 500 to 599");
             }
             loaded = library;
         }

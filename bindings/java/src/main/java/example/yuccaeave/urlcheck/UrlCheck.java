@@ -66,7 +66,7 @@ public final class UrlCheck {
     /**
      * The version of the library that answers.
      *
-     * @return the version, such as {@code 0.4.0}
+     * @return the version, such as {@code 0.5.0}
      */
     public static String version() {
         int version = Library.get().version();

@@ -57,7 +57,7 @@ public final class UrlCheckTest {
 
     @Test
     public void theVersionIsAText() {
-        assertTrue(UrlCheck.version(), UrlCheck.version().startsWith("0.4."));
+        assertTrue(UrlCheck.version(), UrlCheck.version().startsWith("0.5."));
     }
 
     @Test
