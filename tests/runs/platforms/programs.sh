@@ -27,7 +27,8 @@ places_and_mended_texts() {
     python3 cases.py mended "$program" "$room/said" "$top"/tests/vectors/*.json
 }
 
-# calls_and_reports : the calls for many texts and of reports, and each format with the unit that it takes first
+# calls_and_reports : the calls for many texts and of reports, and each format, without colours and with the unit that it takes
+# first
 calls_and_reports() {
     local format unit name reports=0
     run batches "$room/lines"
@@ -37,7 +38,7 @@ calls_and_reports() {
         unit=0 name=code-points
         [ $format != 8-rdjson ] || unit=1 name=bytes
         "$program" lint --quiet --format "${format#*-}" --columns $name "$room/lines" >"$room/wanted" || [ $? = 1 ]
-        run lint "$room/lines" "$room/lines" "${format%-*}" $unit | cmp - "$room/wanted"
+        run lint "$room/lines" "$room/lines" "${format%-*}" $unit 0 | cmp - "$room/wanted"
         reports=$((reports + 1))
     done
     echo "$part: $reports reports as \`lint\` writes them"
