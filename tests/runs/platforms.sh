@@ -19,7 +19,8 @@ part="platforms: $target"
 limit=1800 # seconds for a file of cases
 
 # What runs a program of the target, and what it lacks that some runs need. Neither an emulator nor Node starts in so
-# little memory, Node opens /dev/null in place of a closed stream, and gives the program no environment.
+# little memory, Node opens /dev/null in place of a closed stream, and gives the program no environment. Only Linux tells the
+# program what a name is of.
 case $target in
     aarch64)
         build=aarch64 runner='qemu-aarch64 -0 urlcheck' binary=urlcheck-static lacks=prlimit
@@ -31,13 +32,13 @@ case $target in
         ;;
     windows)
         build=windows runner=wine binary=urlcheck.exe tools=(wine wineserver x86_64-w64-mingw32-gcc)
-        lacks='prlimit byte_arguments posix_names posix_paths file_modes folder_input long_command_lines terminals'
+        lacks='prlimit byte_arguments posix_names posix_paths file_modes file_metadata folder_input long_command_lines terminals'
         ;;
     macos)
-        build=macos runner="qemu-aarch64 -0 urlcheck $room/loader" binary=urlcheck lacks=prlimit
+        build=macos runner="qemu-aarch64 -0 urlcheck $room/loader" binary=urlcheck lacks='prlimit file_metadata'
         tools=(qemu-aarch64 aarch64-linux-gnu-gcc python3)
         ;;
-    node) build=wasi runner=node binary=program.mjs lacks='prlimit closed_streams terminals environment' tools=(node wasm-opt) ;;
+    node) build=wasi runner=node binary=program.mjs lacks='prlimit closed_streams file_metadata terminals environment' tools=(node wasm-opt) ;;
     *) echo 'usage: tests/runs/platforms.sh PROGRAM TARGET' >&2; exit 2 ;;
 esac
 needs "$part" "${tools[@]}"

@@ -43,12 +43,22 @@ refused "'-x'" -x
 refused '<TEXT>' check
 refused "'-a'" check -a
 refused "'-a'" lint -a b
-expect 2 '' "urlcheck: a value is required for '--base <URL>' but none was supplied\nurlcheck: For more information, try '--help'.\nwords\n" \
-    check --base
+# no_value OPTION VALUE HELP WORD.. : these words are refused since this option has no value, and its help says which it may have
+no_value() {
+    local option=$1 value=$2 help=$3
+    shift 3
+    expect 2 '' "urlcheck: a value is required for '$option <$value>' but none was supplied\n\
+urlcheck: For more information, try '--help'.\nurlcheck: $option: $help\nwords\n" "$@"
+}
+formats='How to report [default: gnu] [possible values: gnu, caret, json, github, sarif, checkstyle, junit, gitlab, rdjson]'
+no_value --base URL 'Resolve a relative link against this URL' check --base
+no_value --format FORMAT "$formats" lint --format
+no_value --format FORMAT "$formats" lint --format --quiet links.txt
+no_value --format FORMAT "$formats" lint --base http://h/ --format -- links.txt
+no_value --columns UNIT 'What columns count [default: code-points] [possible values: code-points, bytes, utf16, screen]' lint x --columns
 refused "'urn:b'" check urn:a urn:b
 refused "'urn:b'" check -- urn:a urn:b
-expect 2 '' "urlcheck: a value is required for '--profile <PROFILE>' but none was supplied\nurlcheck: For more information, try '--help'.\nwords\n" \
-    check --profile
+no_value --profile PROFILE 'What to accept [default: standard] [possible values: standard, wide, parser]' check --profile
 refused "'b'" check -- --base b t
 refused "'chek'" chek urn:a
 no_file='urlcheck: links reads standard input, not a file: urlcheck links <FILE'
@@ -94,6 +104,33 @@ for command in '' check lint links mend vectors explain; do
     grep -q '^Exit statuses:$' "$room/long" || fail "$command --help has no exit statuses"
     ! grep -q '^Exit statuses:$' "$room/short" || fail "$command -h has exit statuses"
     [ "$(grep -c -e '^Examples\?:$' "$room/short" "$room/long" | grep -c ':1$')" = 2 ] || fail "$command: a help has no examples"
+    # (the long form is the manual page's; the text of an option in the short one is what it begins with)
+    count=$((count + 1))
+    python3 - "$room/short" "$room/long" >"$room/wrong" <<'PYTHON' || fail "$command -h says otherwise than --help: $(cat "$room/wrong")"
+import re, sys
+short, long = (open(it, encoding="utf-8").read() for it in sys.argv[1:])
+head = re.compile(r" {2,6}((?:-[a-z], )?--[a-z-]+(?: <[A-Z]+>)?|[<[][A-Z]+[]>](?:[.]{3})?)(?:  +(.*))?")
+def entries(text):
+    found, name = {}, None
+    for line in text.split("\n"):
+        begun = head.fullmatch(line)
+        if begun:
+            name = begun[1]
+            found[name] = begun[2] or ""
+        elif name and line.startswith(" " * 10):
+            found[name] += " " + line.strip()
+        else:
+            name = None
+    return {name: " ".join(said.split()) for name, said in found.items() if name != "-h, --help"}
+def others(text):
+    parts = [it for it in text.split("\n\n") if re.match("Usage|Commands|Example", it)]
+    return [text.split("\n")[0]] + [line.rstrip() for it in parts for line in it.strip().split("\n")]
+longs = entries(long)
+wrong = [name for name, said in entries(short).items() if not longs.get(name, "").startswith(said.split(" [")[0])]
+wrong += [it for it in others(short) if it not in others(long)]
+print(*wrong, sep="\n")
+sys.exit(bool(wrong) or len(others(short)) < 3)
+PYTHON
 done
 # The values that the help names are those that the option accepts, as an unknown value is told, and the first is its default.
 # has_values COMMAND OPTION NOUN : the values of an option in both helps, which the program calls so
@@ -114,6 +151,7 @@ has_values() {
 for command in check lint links mend; do has_values $command profile profile; done
 has_values lint format format
 has_values lint columns 'column unit'
+has_values lint color 'colour choice'
 count=$((count + 1))
 [ "$("$program" mend -h | tr -s '\n ' ' ' | grep -c 'possible values: same, escaped, changed')" = 1 ] || fail 'mend -h has no kinds'
 expect 0 "urlcheck $(cat "$(dirname "$(dirname "$here")")/VERSION")\n" '' -V
@@ -141,6 +179,7 @@ expect 0 'valid\nscheme http\nhost ipv4 1.0.0.2\nsegment x\n' '' check x --base 
 expect 0 'links 0 ok 0 bad 0 differs 0\n' '' links --base http://h_/ --profile wide
 expect 2 '' "$(no_base 7 host-domain 'U+005F LOW LINE is not allowed in a domain; --profile wide allows it')" links --profile=standard --base http://h_/
 expect 2 '' "$(no_base 7 host-domain 'U+0021 EXCLAMATION MARK is not allowed in a domain')" links --wide --base http://h_!/
+expect 2 '' "$(no_base 7 host-domain 'U+0021 EXCLAMATION MARK is not allowed in a domain')" mend --wide --base http://h_!/
 expect 2 '' "$(no_base 7 host-domain 'U+0020 SPACE is not allowed in a domain')" mend --profile parser --base 'http://h_! /' x
 expect 0 'mended same\na%20b\n' '' mend --base http://h_/ --wide 'a b'
 refused "'--parser'" check --parser urn:a
@@ -201,24 +240,27 @@ for end in html htm xhtml xht xml rss atom rdf svg md markdown; do
 done
 hints 'refused 0 no-scheme\n' "urlcheck: ../a/x.y.Html $document" check --all --wide -- ../a/x.y.Html
 hints 'refused 0 no-scheme\nrefused 1 code-point\n' "urlcheck: a\0357\0277\0275.md $document" check --all $'a\e.md'
+# (`mend` says a hint also where standard error is no terminal)
 for text in html x.opml x.htmlx x.html/ x.ht .h xhtml links.txt~ 'a b.html' a?b.html a#b.html .json.gz; do
-    expect 1 'refused 0 no-scheme\n' '' check "$text"
+    expect 1 'none\nrefused 0 no-scheme\n' '' mend "$text"
 done
-expect 1 'none\nrefused 0 no-scheme\n' '' mend 'x?y.md'
-expect 1 'refused 0 opaque-base\n' '' check --base urn:a page.html
+hints 'refused 0 opaque-base\n' '' check --base urn:a page.html
 expect 1 'none\nrefused 0 opaque-base\n' '' mend --base urn:a page.html
 expect 1 'refused 7 host-domain\n' '' check http://a_b/page.html
 expect 0 'valid\nscheme http\nhost domain h\nsegment page.html\n' '' check --base http://h/ page.html
 expect 2 '' "$(no_base 0 no-scheme 'it has no scheme')" check --base page.html page.html
 
 # A first word that isn't a command: a hint at what may have been meant.
-for word in http://h/ links.txt; do
+for word in links.txt a:b; do
     ran 2 "$word"
     if [ -s "$room/out" ] || [ "$(head -n 1 "$room/err")" != "urlcheck: unrecognized subcommand '$word'" ] ||
         [ "$(tail -n 2 "$room/err")" != $'urlcheck: check TEXT checks one text, and lint FILE the lines of a file\nwords' ]; then
         fail "$word: on standard error: $(cat "$room/err")"
     fi
 done
+
+ran 2 "http://h/'"
+grep -qxF 'urlcheck: check TEXT checks one text, and lint FILE the lines of a file' "$room/err" || fail "a link with a quote: $(cat "$room/err")"
 
 # One that is near to a command, or abbreviates just one by its first letter and further ones in their order: that one, in place
 # of clap's tips. For `version` it is said which words show that.
@@ -236,9 +278,16 @@ no_command 'urlcheck --version shows the version' version
 for word in page.html docs/README.md; do
     no_command 'urlcheck-documents FILE checks the links of a document' $word
 done
-for word in . docs/; do
-    no_command 'lint reads files, not folders; urlcheck-documents FOLDER checks the documents in it' $word
+for word in https://e.com/ 'http://h/a b' foo://x; do
+    no_command "urlcheck check '$word' checks this link" "$word"
 done
+# (with or without a slash, a folder that is there)
+mkdir "$room/documents" "$room/lin"
+of_folders='lint reads files, not folders; urlcheck-documents FOLDER checks the documents in it'
+for word in . docs/ documents/; do no_command "$of_folders" $word; done
+if has file_metadata 1; then no_command "$of_folders" documents; fi
+no_command "no command is named 'lin'; the nearest is lint" lin
+rmdir "$room/documents" "$room/lin"
 # (so is the word after help)
 expect 2 '' "urlcheck: unrecognized subcommand 'lnt'\n$(usage_of "$(basename "$program") <COMMAND>")\
 urlcheck: no command is named 'lnt'; the nearest is lint\nwords\n" help lnt
@@ -406,6 +455,8 @@ of_mend='urlcheck mend [OPTIONS] [TEXT]\nurlcheck:        urlcheck mend --in-pla
 misspelt -w 'urlcheck check [OPTIONS] <TEXT>' 'check has no option -wide; the nearest is --wide' check -wide urn:a
 misspelt -f "$of_files" 'lint has no option -format; the nearest is --format' lint -format=json links.txt
 misspelt -o "$of_mend" 'mend has no option -only; the nearest is --only' mend -only same
+# (a letter isn't looked for in a long name)
+misspelt -a "$of_files" 'lint has no option -a; the nearest is --all' lint --base=http://h/ -a links.txt
 
 # Only letters decide which name is near, not hyphens.
 for words in 'lint --file' 'check --line' 'mend --mode' 'explain --rule=x'; do
@@ -428,6 +479,7 @@ done
 unknown 'urlcheck check [OPTIONS] <TEXT>' --preview check --preview urn:a
 unknown 'urlcheck check [OPTIONS] <TEXT>' -5 check -5
 unknown 'urlcheck check [OPTIONS] <TEXT>' -x check --wide -x urn:a
+unknown 'urlcheck check [OPTIONS] <TEXT>' --in_place check --in_place urn:a
 unknown "$of_mend" --only-4xx mend --only-4xx
 unknown "$(basename "$program") vectors <FILE>" --bogus vectors --bogus a.json
 unknown "$(basename "$program") <COMMAND>" --bogus --bogus lint links.txt
@@ -473,7 +525,7 @@ instead() {
     local hint=$1 command=$2 option shown
     shift 2
     for option in "$@"; do
-        case $option in --*) shown=${option%%=*} ;; *) shown=${option:0:2} ;; esac
+        case $option in --*) shown=${option%%[= ]*} ;; *) shown=${option:0:2} ;; esac
         ran 2 $command $option x
         if [ -s "$room/out" ] || [ "$(head -n 1 "$room/err")" != "urlcheck: unexpected argument '$shown' found" ] ||
             [ "$(tail -n 2 "$room/err")" != "urlcheck: there is no option $shown; $hint"$'\n'words ] ||
@@ -482,45 +534,66 @@ instead() {
         fi
     done
 }
-instead 'urlcheck mend --in-place FILE mends the links of a list' lint --fix --unsafe-fixes --write -w -wn
+instead 'urlcheck mend --in-place FILE mends the links of a list' lint --fix --fix-only --unsafe-fixes --write -w -wn
 instead 'urlcheck mend -q <FILE | diff FILE - shows what mend changes' lint --diff --dry-run --fix-dry-run
-instead 'lint --color WHEN takes auto, always and never' lint --colour --no-color --colors
+instead 'lint --color WHEN takes auto, always and never' lint --colour --no-color --no-colour --colors --colours
 instead "lint --format FORMAT names the format" lint --output-format --reporter --formatter=json
 instead 'lint --format json writes an object a line' lint --json
 instead 'lint --format sarif writes SARIF' lint --sarif
-instead "lint reports every rule: grep -v '\\[percent\\]$' leaves out the lines of one" lint --select --ignore=percent --disable
+has_ignore='urlcheck-documents has --ignore' has_select='urlcheck-documents has --select'
+instead "lint reports every rule: grep -v '\\[RULE\\]$' leaves one out; $has_ignore" lint --ignore --extend-ignore --disable --disable=percemt '--extend-ignore percent,host-ipv6'
+instead "lint reports every rule: grep -v '\\[percent\\]$' leaves one out; $has_ignore" lint --ignore=percent '--ignore percent'
+instead "lint reports every rule: grep -v '\\[first-segment-empty\\]$' leaves one out; $has_ignore" lint '--extend-ignore first-segment-empty'
+instead "lint reports every rule: grep '\\[host-ipv6\\]$' leaves one; $has_select" lint '--select host-ipv6' --rule=host-ipv6
+instead "lint reports every rule: grep '\\[RULE\\]$' leaves one; $has_select" lint --select --extend-select --rule
+printf 'http://a..b/\nhttp://h/%%\n' >"$room/list"
+count=$((count + 2))
+[ "$("$program" lint -q "$room/list" | grep -v '\[percent\]$' | grep -c .)" = 1 ] || fail 'lint: grep leaves out more than a rule'
+[ "$("$program" lint -q "$room/list" | grep '\[percent\]$' | grep -c .)" = 1 ] || fail 'lint: grep leaves more than a rule'
 instead 'lint reads the FILEs that it is given, and each of their lines: leave some out before' lint --exclude --include --skip \
     --ignore-pattern --ignore-url --ignore-urls=x
-instead 'lint reads lists; urlcheck-documents FOLDER checks the documents of a folder' lint --recursive -r -rn
+instead 'lint reads lists; urlcheck-documents FOLDER checks the documents of a folder' lint --recursive -r -rn -R
 instead 'lint --format caret shows each line, and urlcheck --version the version' lint --verbose -v -vv
 instead 'lint --format caret shows each line, and urlcheck --version the version' '' -v --verbose
-instead 'lint --format caret shows each line; explain RULE explains a rule' lint --debug --explain=x
+instead 'lint --format caret shows each line; explain RULE explains a rule' lint --debug --explain=x --show-source
 instead 'lint --quiet leaves out the counts' lint --silent -s
 instead '>FILE writes what is printed to a file' lint --output -o --output-file=x -ox.txt
-instead "lint -q FILE | grep -o '\\[[a-z0-9-]*\\]$' | sort | uniq -c counts by rule" lint --statistics --count
-instead '|| [ $? = 1 ] after the command goes on at a refused link' lint --exit-zero
+instead "lint -q FILE | grep -o '\\[[a-z0-9-]*\\]$' | sort | uniq -c counts by rule" lint --statistics --stats --count --summary
+instead '|| [ $? = 1 ] after the command goes on at a refused link' lint --exit-zero --no-fail
 instead 'each refused link is an error' lint --max-warnings=0 --severity --minAlertLevel
 instead 'lint reads a million links in less than a second: once, on one processor' lint --jobs -j -j4 -j=4 --threads --parallel \
-    --watch --cache
-instead 'only urlcheck-documents reads a configuration' lint --config -c --norc --rcfile
+    --watch --cache --no-cache
+instead 'only urlcheck-documents reads a configuration' lint --config -c --isolated --no-config --norc --rcfile
 instead 'no command fetches a link: only how it is written is checked' check --timeout --offline --online --retries=3 --max-retries \
     --max-redirects --user-agent --method --insecure --accept --check-extern --disable-external --recursion-level
 for command in lint links check ''; do
-    instead 'check, lint and links check how links are written, and fetch none' "$command" --check
+    instead 'leave it out: check, lint and links change no file' "$command" --check
 done
 instead 'urlcheck-documents, which reads documents, has one' lint --list --type=html --gfm --git --no-empty --baseline --write-baseline
 instead 'urlcheck-documents, which reads documents, has one' '' --list
 instead '--base URL is what relative links are resolved against' lint --base-url=http://h/
 instead 'the standard profile is the strictest, and the one without --profile' check --strict
-instead 'urlcheck explain explains every rule' lint --list-rules
+instead 'urlcheck explain explains every rule' lint --list-rules --show-rules --rules
 instead 'lint - reads standard input' lint --stdin
-instead 'lint --stdin-name NAME - names standard input' lint --stdin-filename=x
+instead 'lint --stdin-name NAME - names standard input' lint --stdin-filename=x --stdin-display-name=x
 # (the letter that a command doesn't take is the option)
 misspelt -w "$of_mend" 'there is no option -w; urlcheck mend --in-place FILE mends the links of a list' mend -iw links.txt
 misspelt -r "$of_files" 'there is no option -r; lint reads lists; urlcheck-documents FOLDER checks the documents of a folder' lint -qrn .
 misspelt -i 'urlcheck check [OPTIONS] <TEXT>' '-i is an option of mend' check -in urn:a
 misspelt --version "$of_files" 'urlcheck --version shows the version' lint --version
 misspelt -V 'urlcheck check [OPTIONS] <TEXT>' 'urlcheck --version shows the version' check -V
+# (before a command, and of each command, help is an option too; the usage may show it)
+for words in '--verion --version' '--vers --version' '--hlep --help' '--halp=x --help'; do
+    read -r word near <<<"$words"
+    ran 2 $word
+    word=${word%=*}
+    if [ -s "$room/out" ] || [ "$(head -n 1 "$room/err")" != "urlcheck: unexpected argument '$word' found" ] ||
+        [ "$(tail -n 2 "$room/err")" != "urlcheck: urlcheck has no option $word; the nearest is $near"$'\n'words ]; then
+        fail "$word: on standard error: $(cat "$room/err")"
+    fi
+done
+nearest_is --help lint --hlep
+nearest_is --help vectors --halp
 
 # The text and the base are taken as they are given.
 expect 1 'refused 0 no-scheme\n' '' check ''
@@ -629,9 +702,12 @@ tells() {
     ends_with 1 $? "$said" "check $*, at a terminal"
 }
 tells 'urlcheck: at place 10: U+0020 SPACE is not allowed in a URL\nurlcheck: write http://h/a%20b\n' 'http://h/a b'
+# (so that what is copied from there is the same URL, though the terminal doesn't turn its text)
+tells 'urlcheck: at place 10: U+0020 SPACE is not allowed in a URL\nurlcheck: write http://h/a%20b%E2%80%AE\n' $'http://h/a b\xe2\x80\xae'
 tells 'urlcheck: at place 1: U+0020 SPACE is not allowed in a URL\nurlcheck: write a%20b%25g4\n' --base http://h/ 'a b%g4'
 # (a wider profile is named where it accepts the whole text)
 tells 'urlcheck: in the host at place 7: U+005F LOW LINE is not allowed in a domain; --profile wide allows it\n' http://a_b/
+tells 'urlcheck: in the host at place 2: U+005F LOW LINE is not allowed in a domain; --profile wide allows it\n' --base http://h/ //a_b/
 tells 'urlcheck: in the host at place 7: U+005F LOW LINE is not allowed in a domain\n'\
 'urlcheck: at place 11: U+0020 SPACE is not allowed in a URL\n' --all 'http://a_b/ '
 tells 'urlcheck: at place 9: U+007B LEFT CURLY BRACKET is not allowed in a URL; this looks like a template: check what it makes\n' \
@@ -655,6 +731,6 @@ region = "in the host " if it["rule"] in ("host-domain", "host-number", "host-ip
 print("urlcheck: %sat place %d: %s" % (region, it["column"] - 1, it["message"]))
 if it.get("offered"): print("urlcheck: write " + it["mended"])' "$room/json" | cmp -s - "$room/err" ||
         fail "check $text: on standard error: $(cat "$room/err")"
-done < <("$program" explain |
-    awk '/^rule / { base = "" } /^base / { base = substr($0, 6) } /^text / { print base "\037" substr($0, 6) }')
-all_cases 528
+done < <("$program" explain | awk '/^    / && !text { text = substr($0, 5) } /^The base of both: / { base = substr($0, 19) }
+    /^URL Standard, / { print base "\037" text; base = text = "" }')
+all_cases 584

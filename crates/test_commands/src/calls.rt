@@ -6,7 +6,7 @@ use uv_io::ToWriter;
 use uv_model::{Refusal, Rule};
 use uv_vectors::VectorEnd;
 
-// A line's number, what is said of it, and the line of the report.
+// A line's number, what the report says of it, and the line of the report.
 type Row = (u64, Outcome<'static>, &'static str);
 
 const ROWS: [Row; 5] = [

@@ -8,13 +8,23 @@ use uv_arguments::Told;
 use uv_cli::{CliFault, ExplainEnd, run_explain};
 use uv_io::{DeviceFault, Sink, ToWriter};
 
-const HOST_MISSING: &str = "rule host-missing
-means a host is missing here
-asks After //, ftp, http, https, ws and wss have a host, file a host or a path, and a port follows a host.
-section 3.4, 4.3
-text https:///example.com/a
-refused 8 host-missing
-meant https://example.com/a
+const HOST_MISSING: &str = "host-missing: a host is missing here
+
+After //, ftp, http, https, ws and wss have a host, file a host or a path, and a
+port follows a host.
+
+Browsers refuse the link, or take the first segment of its path as the host.
+
+Wrong, at place 8:
+
+    https:///example.com/a
+
+Write instead:
+
+    https://example.com/a
+
+URL Standard, 3.4, 4.3
+https://url.spec.whatwg.org/#valid-host-string
 ";
 
 // The one name of a rule.

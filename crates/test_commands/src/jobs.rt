@@ -28,7 +28,7 @@ pub(crate) fn ends(
         panic!(rt; "an empty piece");
     };
     let mut out = ScriptSink::new(rt.alloc(), 1000, writes)?;
-    let end = run_job(rt, job, &[], &mut input, &mut out);
+    let end = run_job(rt, job, &[], &mut input, &mut out).end;
     assert!(rt; status(end) == wanted.status);
     assert!(rt; error_line(rt.alloc(), end)?.as_str() == wanted.said);
     assert!(rt; out.bytes() == wanted.written.as_bytes());

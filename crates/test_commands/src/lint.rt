@@ -37,7 +37,7 @@ fn job(alloc: Global, other: Option<&str>) -> Result<Job, Fail> {
 fn goes_on_after_a_failed_read(rt: HostRuntime) -> Result<(), Fail> {
     let wanted = Wanted {
         status: 2,
-        said: "urlcheck: 2 lines, 1 refused\n",
+        said: "urlcheck: 2 lines, 1 refused, 1 file not read\n",
         written: WRONG,
     };
     let list: &[u8] = b"urn:a\nx\nurn";

@@ -53,7 +53,7 @@ abbrev pub without_hyphen : List ℕ → List ℕ
 without_hyphen [] = []
 without_hyphen (first ∷ rest) = if first == 0x2D then rest else first ∷ rest
 
--- what is said of an argument, by its word: what is before the NUL, where it has one, without a hyphen at its start
+-- the message about an argument, by its word: what is before the NUL, where it has one, without a hyphen at its start
 abbrev pub said_of : List ℕ → Option (List ℕ)
 said_of word =
     option_map (λ at. without_hyphen (before_first (λ b. b == 0) word)) (position (λ b. b == 0) word)
@@ -62,7 +62,7 @@ said_of word =
 abbrev pub count_marked : List (List ℕ) → ℕ
 count_marked words = length (filter (λ word. is_some (said_of word)) words)
 
--- what is said of the first of them
+-- the message about the first of them
 abbrev pub first_said : List (List ℕ) → Option (List ℕ)
 first_said [] = None
 first_said (word ∷ rest) = if is_some (said_of word) then said_of word else first_said rest
@@ -73,6 +73,6 @@ files_of (job.Lint asked) = map string_bytes asked.files.items
 files_of (job.InPlace files asked) = map string_bytes files.items
 files_of other = []
 
--- what is said of these words, where not each argument that isn't UTF-8 is one of those files
+-- the message about these words, where not each argument that isn't UTF-8 is one of those files
 abbrev pub refused : List (List ℕ) → List (List ℕ) → Option (List ℕ)
 refused words files = if count_marked files == count_marked words then None else first_said words

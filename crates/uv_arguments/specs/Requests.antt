@@ -1,5 +1,5 @@
 -- What the arguments of the command line ask for, by `clap`'s definition of the arguments that a command takes.
-use Rattle.std.specs.Prelude.{◌≡◌, ◌≢◌, ◌||◌, Bool, List, [], ◌∷◌, Option, Some, None, Result, Ok, Err, true, false}
+use Rattle.std.specs.Prelude.{◌||◌, Bool, List, [], ◌∷◌, Option, Some, None, Result, Ok, Err, true, false}
 use Rattle.std.specs.Prelude.{String, codes, is_some, map, option_and_then, option_map, string_bytes, unwrap_or}
 use Rattle.std.specs.Prelude.{if◌then◌else◌}
 use Rattle.std.specs.List.{list_any}
@@ -7,10 +7,12 @@ use Rattle.std.specs.Option.{option_map_or}
 use Rattle.std.specs.Str.{bytes_eq}
 use Rattle.std.specs.declared.alloc.Global.{Global}
 use Rattle.clap.specs.Words.{Row, Text, all_of, first_of}
-use Rattle.clap.specs.Words.{IsAmong, fault_of, kind_of}
-use Rattle.clap.specs.declared.error.Error.{Error}
+use Rattle.clap.specs.Words.{HasKind, fault_of, kind_of}
 use Rattle.clap.specs.declared.error.kind.ErrorKind.{ErrorKind}
 use Rattle.clap.specs.declared.error.kind.ErrorKind.TheVariants.{DisplayHelp, DisplayVersion, OutOfMemory}
+use Rattle.clap.specs.declared.error.kind.ErrorKind.TheVariants.{DisplayHelpOnMissingArgumentOrSubcommand}
+use Rattle.clap.specs.declared.error.kind.ErrorKind.TheVariants.{InvalidSubcommand, UnknownArgument, InvalidValue}
+use Rattle.clap.specs.declared.error.kind.ErrorKind.TheVariants.{MissingRequiredArgument}
 use Rattle.uv_model.specs.declared.extent.Extent.{Extent}
 use Rattle.uv_model.specs.declared.extent.Extent.TheVariants.{First, All}
 use Rattle.uv_model.specs.declared.profile.Profile.{Profile}
@@ -27,8 +29,9 @@ use Rattle.uv_arguments.specs.declared.jobs.Job.TheVariants as job
 use Rattle.uv_arguments.specs.declared.jobs.LintJob.{LintJob}
 use Rattle.uv_arguments.specs.declared.jobs.Told.{Told}
 use Rattle.uv_arguments.specs.declared.jobs.Told.TheVariants.{Address, Explanation}
-use Rattle.uv_arguments.specs.declared.reading.WordsFault.{WordsFault}
-use Rattle.uv_arguments.specs.declared.reading.WordsFault.TheVariants as fault
+use Rattle.uv_arguments.specs.declared.words_fault.Reason.{Reason}
+use Rattle.uv_arguments.specs.declared.words_fault.Reason.TheVariants as reason
+use Rattle.uv_arguments.specs.declared.words_fault.WordsFault.{WordsFault}
 
 -- ---- what is asked for
 
@@ -57,10 +60,10 @@ pub record FilterRequest : Type 0 where
   pub quiet : Bool
 
 -- a command with its texts and options: of a check the text, the base, how many violations and the profile; of a list
--- the base and the profile; of a mending the text, the base and the profile, or it is asked by what is of a filter
--- alone, or of several texts, or it is of files in their place; of vectors the file; of an explanation the names of
--- rules, and what is told of them; or a profile's name that none has; or a lint is asked by a name of standard input,
--- which it doesn't read, or by an empty one, or by a word that doesn't say when there are colours
+-- the base and the profile; of a mending the text, the base and the profile, or it is asked by what only a filter has,
+-- or of several texts, or it is of files in their place; of vectors the file; of an explanation the names of rules, and
+-- what it tells of them; or a profile's name that none has; or a lint is asked by a name of standard input, which it
+-- doesn't read, or by an empty one, or by a word that doesn't say when there are colours
 pub data Request : Type 0 where
   check : Text → Option Text → Extent → Profile → Request
   lint : LintRequest → Request
@@ -130,7 +133,7 @@ filter_in rows profile = record {
   quiet = has_flag (codes "quiet") rows;
 }
 
--- what is of a filter alone is given
+-- what only a filter has is given
 abbrev pub is_filtered : List Row → Bool
 is_filtered rows =
     (has_flag (codes "quiet") rows || has_flag (codes "all-mended") rows) || is_some (first_of (codes "only") rows)
@@ -280,23 +283,22 @@ wanted_view (asked.Unknown name) = unknown name.now
 
 -- ---- why there is none
 
--- the error has a kind that `clap`'s definition gives for the arguments
+-- the error has a kind that `clap`'s definition gives for the arguments, or memory ran out
 abbrev pub IsFaultOf : List Text → WordsFault → Type 0
-IsFaultOf words (fault.Words error) = IsAmong (kind_of error) (fault_of urlcheck words)
-IsFaultOf words fault.Memory = Unit {0}
+IsFaultOf words fault = HasKind (fault_of urlcheck words) fault.error
 
--- the error itself, or out of memory
-abbrev pub IsFrom : Error → WordsFault → Type 0
-IsFrom error (fault.Words e) = (e ≡ error) × (kind_of error ≢ OutOfMemory)
-IsFrom error fault.Memory = kind_of error ≡ OutOfMemory
+-- why there is no job, by the kind of the error
+abbrev pub reason_by : ErrorKind → Reason
+reason_by OutOfMemory = reason.Memory
+reason_by DisplayHelp = reason.Shown
+reason_by DisplayVersion = reason.Shown
+reason_by DisplayHelpOnMissingArgumentOrSubcommand = reason.NoWords
+reason_by InvalidSubcommand = reason.NoCommand
+reason_by UnknownArgument = reason.Unexpected
+reason_by MissingRequiredArgument = reason.Missing
+reason_by InvalidValue = reason.NoValue
+reason_by _ = reason.Other
 
--- the kind says that help or the version was wanted
-abbrev pub is_shown : ErrorKind → Bool
-is_shown DisplayHelp = true
-is_shown DisplayVersion = true
-is_shown _ = false
-
--- help or the version is asked for
-abbrev pub asks_to_show : WordsFault → Bool
-asks_to_show (fault.Words error) = is_shown (kind_of error)
-asks_to_show fault.Memory = false
+-- why there is none
+abbrev pub reason_of : WordsFault → Reason
+reason_of fault = reason_by (kind_of fault.error)

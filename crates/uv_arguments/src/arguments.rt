@@ -124,7 +124,7 @@ fn mark(alloc: Global, number: usize, hyphen: bool) -> Result<String, AllocError
     }
 }
 
-/// What is said about an argument that isn't UTF-8, by the text that stands for it; nothing for any other text.
+/// The message about an argument that isn't UTF-8, by the text that stands for it; nothing for any other text.
 pub fn said_of(text: &str) -> Option<&str>
     ensures { option_copied result ≡ said_of text.now }
 {
@@ -144,7 +144,7 @@ pub fn without_hyphen(text: &str) -> &str
     }
 }
 
-/// What is said about the first argument that isn't UTF-8, unless each such argument is a file of a lint, or one that is
+/// The message about the first argument that isn't UTF-8, unless each such argument is a file of a lint, or one that is
 /// mended in its place: the command goes on without it.
 pub fn refused<'a>(texts: &'a [String], job: Option<&Job>) -> Option<&'a str>
     ensures { option_copied result
@@ -167,7 +167,7 @@ fn count_of_files(job: Option<&Job>) -> usize
     }
 }
 
-// What is said about the first of the texts that stands for an argument that isn't UTF-8.
+// The message about the first of the texts that stands for an argument that isn't UTF-8.
 fn first_said(texts: &[String]) -> Option<&str>
     ensures { option_copied result ≡ first_said (map string_bytes texts.now) }
 {

@@ -123,8 +123,8 @@ pub(crate) const EXPLAIN_EXAMPLES: &str = "Examples:
   urlcheck explain --url host-missing percent";
 
 pub(crate) const EXPLAIN_NOTES: &str =
-    "Prints what each RULE asks, its section of the URL Standard, and a text that it
-refuses with a valid one. A rule's number names it too.
+    "Prints what each RULE asks and why, a text that it refuses with a valid one, and
+its section of the URL Standard. A rule's number names it too.
 
 Exit statuses:
   0  each RULE is explained

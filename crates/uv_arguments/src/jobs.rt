@@ -61,7 +61,7 @@ pub enum Job {
     Explain {
         /// The rules' names, in order, or none if every rule is meant.
         rules: Vec<String>,
-        /// What is said about each of them.
+        /// What to print about each of them.
         told: Told,
     },
     /// To check by a profile that doesn't exist.
@@ -76,7 +76,7 @@ pub enum Job {
     },
 }
 
-/// What is said about a rule.
+/// What to print about a rule.
 #[derive(Clone, Copy)]
 pub enum Told {
     /// Its explanation.

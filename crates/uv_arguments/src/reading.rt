@@ -1,13 +1,13 @@
 //! What the arguments of the command line ask for.
 ghost use Rattle.std.specs.Prelude.{◌≡◌, IfOk, IfErr, Some, codes, map, option_map, true};
-ghost use Rattle.clap.specs.Words.{first_of, found_of, kind_of, rows_of, subcommand_of, subcommand_rows_of};
+ghost use Rattle.clap.specs.Words.{first_of, found_of, rows_of, subcommand_of, subcommand_rows_of};
 ghost use Rattle.clap.specs.Words.{takes};
 ghost use Rattle.uv_arguments.specs.Commands.{urlcheck};
-ghost use Rattle.uv_arguments.specs.Requests.{asked_by, asks_to_show, check_in, checked_in, lint_in};
+ghost use Rattle.uv_arguments.specs.Requests.{asked_by, check_in, checked_in, lint_in};
 ghost use Rattle.uv_arguments.specs.Requests.{lint_of, request_by};
 ghost use Rattle.uv_arguments.specs.Requests.{explain, filter_by, filter_in, is_filtered, mend_in, rules_in};
 ghost use Rattle.uv_arguments.specs.Requests.{request_in, request_of, told_in, vectors, wanted_in, wanted_view, IsFaultOf};
-ghost use Rattle.uv_arguments.specs.Requests.{IsFrom};
+ghost use Rattle.uv_arguments.specs.Requests.{reason_of};
 
 use crate::colours::{Colours, colours_asked};
 use crate::commands::urlcheck;
@@ -15,34 +15,10 @@ use crate::entries::{copied, copied_all, extent, has, value, values};
 use crate::inputs::has_input;
 use crate::jobs::{FilterJob, Job, LintJob, Told};
 use crate::profile::{Asked, asked_for};
-use clap::error::ErrorKind;
-use clap::{ArgMatches, Error};
+use crate::words_fault::{Reason, WordsFault};
+use clap::ArgMatches;
 use std::alloc::{AllocError, Global};
 use uv_model::Profile;
-
-/// Why the arguments give no job.
-#[derive(Drop)]
-pub enum WordsFault {
-    /// The arguments are refused, or ask for help or the version. The error holds the text to show.
-    Words(Error),
-    /// An allocation failed.
-    Memory,
-}
-
-impl WordsFault {
-    /// Whether the arguments ask for help or the version. Then the error's text isn't a refusal.
-    pub fn asks_to_show(&self) -> bool
-        ensures { result ≡ asks_to_show self.now }
-    {
-        match self {
-            WordsFault::Words(error) => matches!(
-                error.kind(),
-                ErrorKind::DisplayHelp | ErrorKind::DisplayVersion
-            ),
-            WordsFault::Memory => false,
-        }
-    }
-}
 
 /// Reads the arguments of a command line, of which the first is the program's name.
 ///
@@ -53,31 +29,14 @@ pub fn read_words(alloc: Global, words: &[&str]) -> Result<Option<Job>, WordsFau
     ensures job { IfOk result (λ job. option_map asked_by job
         ≡ request_of (subcommand_of urlcheck (map (λ word. word.now) words.now))) }
     ensures fault { IfErr result (IsFaultOf (map (λ word. word.now) words.now)) }
-    ensures takes { IfErr result (λ f.
-        takes urlcheck (map (λ word. word.now) words.now) ≡ true → f ≡ WordsFault.Memory) }
+    ensures takes { IfErr result (λ fault.
+        takes urlcheck (map (λ word. word.now) words.now) ≡ true → reason_of fault ≡ Reason.Memory) }
 {
-    let Ok(command) = urlcheck(alloc) else {
-        return Err(WordsFault::Memory);
-    };
-    let matches = match command.try_get_matches_from(words) {
+    let matches = match urlcheck(alloc)?.try_get_matches_from(words) {
         Ok(matches) => matches,
-        Err(error) => return Err(fault(error)),
+        Err(error) => return Err(WordsFault::new(error)),
     };
-    match job_of(alloc, &matches) {
-        Ok(job) => Ok(job),
-        Err(_) => Err(WordsFault::Memory),
-    }
-}
-
-// Tells `clap`'s error of memory from those that have a text to show.
-fn fault(error: Error) -> WordsFault
-    ensures memory { kind_of error ≡ ErrorKind.OutOfMemory → result ≡ WordsFault.Memory }
-    ensures from { IsFrom error result }
-{
-    match error.kind() {
-        ErrorKind::OutOfMemory => WordsFault::Memory,
-        _ => WordsFault::Words(error),
-    }
+    Ok(job_of(alloc, &matches)?)
 }
 
 // The job that the command of the matches asks for.

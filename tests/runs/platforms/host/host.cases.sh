@@ -10,11 +10,11 @@ if has byte_arguments 3; then
 fi
 
 # A file that isn't there, and a folder.
-expect 2 '' "urlcheck: missing: can't be read: there is no such file\nurlcheck: 0 lines, 0 refused\n" lint missing
+expect 2 '' "urlcheck: missing: can't be read: there is no such file\nurlcheck: 0 lines, 0 refused, 1 file not read\n" lint missing
 mkdir "$room/folder"
 expect 2 '' "urlcheck: folder: can't be read: it is a folder
 urlcheck: lint reads files, not folders; urlcheck-documents FOLDER checks the documents in it
-urlcheck: 0 lines, 0 refused\n" lint folder
+urlcheck: 0 lines, 0 refused, 1 file not read\n" lint folder
 
 # A file and standard input are read to the last byte, in lines of any length.
 awk 'BEGIN { for (n = 0; n < 70000; n++) printf "urn:a\n"; printf "x y" }' >"$room/list"

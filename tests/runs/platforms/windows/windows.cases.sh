@@ -62,7 +62,7 @@ of_units 0 'valid\nscheme http\nhost domain h\nsegment %C3%A9%E4%B8%AD\n' '' che
 for units in ~d83d ~de00 ~de00~d83d ~d83d~d83d ~d83da; do
     of_units 2 '' "urlcheck: argument 2 isn't UTF-8\nwords\n" check "http://h/$units"
 done
-of_units 2 '' "urlcheck: argument 3 isn't UTF-8\nurlcheck: 0 lines, 0 refused\n" lint -- "folder/~d83d"
+of_units 2 '' "urlcheck: argument 3 isn't UTF-8\nurlcheck: 0 lines, 0 refused, 1 file not read\n" lint -- "folder/~d83d"
 printf 'x\n' >"$room/folder/"$'\u00e9\U1f600'
 of_units 1 "folder/\0303\0251\0360\0237\0230\0200:$wrong" '' lint -q 'folder\~00e9~d83d~de00'
 

@@ -1,4 +1,4 @@
--- What is said of the first of the rest is what is said of the first of all.
+-- The message about the first of the rest is the message about the first of all.
 use Rattle.std.proofs.Common.{◌≡◌, drop, map, string_bytes}
 use Rattle.uv_arguments.specs.Arguments.{first_said}
 use Rattle.uv_arguments.proofs.arguments.first_said.Given as goal
