@@ -23,7 +23,7 @@ links_say() {
 # standard input of each command that reads a list
 looks() {
     printf '%b' "$3" >"$room/list"
-    said_of 1 "urlcheck: list $1: $2 | urlcheck lint -\\n" lint -q list
+    said_of 1 "urlcheck: list $1: ${2//FILE/list} | urlcheck lint -\\n" lint -q list
     said_of 1 "urlcheck: standard input $1: $2 | urlcheck lint -\\n" lint --quiet -
     links_say "urlcheck: standard input $1: $2 | urlcheck links\\n"
     said_of 1 "urlcheck: standard input $1: $2 | urlcheck mend\\n" mend -q
@@ -41,6 +41,10 @@ plain() {
 gzip='is compressed by gzip' utf16='is UTF-16' json='looks like JSON' returns='ends its lines by CR alone'
 table='looks like a table; where column N has the links'
 looks "$gzip" 'gzip -dc FILE' '\037\0213\010\n'
+latin="isn't UTF-8; if it is Latin-1"
+for bytes in 'http://h/caf\0351\n' '\0240\n\0377' '["\0375"]' 'a,\0351\n'; do
+    looks "$latin" 'iconv -f ISO-8859-1 -t UTF-8 FILE' "$bytes"
+done
 looks "$utf16" 'iconv -f UTF-16 -t UTF-8 FILE' '\0377\0376h\0000\n\0000'
 looks "$utf16" 'iconv -f UTF-16 -t UTF-8 FILE' '\0376\0377\0000h\0000\n'
 strings="jq -r '.. | strings' FILE"
@@ -63,7 +67,7 @@ links_say "urlcheck: standard input isn't text\n"
 
 # No such list: a sentence, links with commas, an IPv6 address, brackets without a string, one letter of a mark, LF after CR.
 for bytes in 'Hello, world\n' 'a,b: c\n' 'a,b;c\n' 'x/a,b\n' '[::1]\n' '[{}]\n' '[[["x"]]]\n' 'x ["a"]\n' '\037x\n' '\0377x\n' \
-    '\0376\n\0377' 'x\r\n' '\r\nx' 'x\n' 'x y\n'; do
+    '\0376\n\0377' '\0237\n' '\0303\0251\0351\n' 'x\r\n' '\r\nx' 'x\n' 'x y\n'; do
     plain 1 "$bytes"
 done
 plain 0 ''
@@ -71,6 +75,7 @@ plain 0 'http://h/a,b\n'
 # (if nothing is refused, there is no message)
 plain 0 'name,url\n' --base http://h/
 plain 0 'a,b\nc\n' --base http://h/
+said_of 0 '' mend -q --base http://h/
 
 # The first 256 bytes tell a table and JSON, and all bytes that were read tell CR from LF.
 letters=$(printf 'a%.0s' {1..255})
@@ -86,9 +91,9 @@ plain 1 "x\\r$many\\n"
 # A hint is once a file, before the counts, and the standard input's after the last file. What is printed is as without it.
 printf '\x1f\x8b\n' >"$room/list"
 printf 'a,b\n' >"$room/table"
-said_of 2 "urlcheck: list $gzip: gzip -dc FILE | urlcheck lint -\\nurlcheck: missing: can't be read: there is no such file\\n\
-urlcheck: table $table: cut -d , -f N FILE | urlcheck lint -\\n\
-urlcheck: standard input $gzip: gzip -dc FILE | urlcheck lint -\\nurlcheck: 3 lines, 3 refused\\n" lint - list missing table
+said_of 2 "urlcheck: list $gzip: gzip -dc list | urlcheck lint -\\nurlcheck: missing: can't be read: there is no such file\\n\
+urlcheck: table $table: cut -d , -f N table | urlcheck lint -\\n\
+urlcheck: standard input $gzip: gzip -dc FILE | urlcheck lint -\\nurlcheck: 3 lines, 3 refused, 1 file not read\\n" lint - list missing table
 wrote '-:1:2: error: [not-utf8]\nlist:1:2: error: [not-utf8]\ntable:1:1: error: [no-scheme]\n' "$room/out" ||
     fail "hints of lists: it wrote $(cat "$room/out")"
 links_say "urlcheck: standard input $gzip: gzip -dc FILE | urlcheck links\\n" --base http://h/
@@ -105,6 +110,14 @@ if has_file $'a\e'; then
     (cd "$room" && "$program" lint -q $'a\e') >"$room/out" 2>"$room/err"
     ends_with 1 $? "urlcheck: a\\0357\\0277\\0275 $gzip: gzip -dc FILE | urlcheck lint -\\n" 'lint, of a name with a control'
 fi
+# A code point that is cut after 256 bytes is UTF-8, and a name is in a command where that needs no quotes.
+plain 1 "x$(printf 'a%.0s' {1..254})\\0303\\0251\\n"
+for name in latin.txt ./latin.txt 'la tin' la\'tin; do
+    printf 'http://h/caf\xe9\n' >"$room/$name"
+    case $name in *latin.txt) shown=$name ;; *) shown=FILE ;; esac
+    (cd "$room" && "$program" lint -q "$name") >"$room/out" 2>"$room/err"
+    ends_with 1 $? "urlcheck: $name $latin: iconv -f ISO-8859-1 -t UTF-8 $shown | urlcheck lint -\\n" "lint, of $name"
+done
 # The hint's own command hands the lines over.
 printf 'http://h/\nhttp://h/a b\n' | gzip >"$room/list"
 (cd "$room" && gzip -dc list | "$program" lint -q -) >"$room/out" 2>"$room/err"
@@ -114,4 +127,4 @@ ends_with 1 $? '' 'links, of a column'
 printf 'http://h/\rhttp://h/x\r' | tr '\r' '\n' | "$program" mend -q >"$room/out" 2>"$room/err"
 ends_with 0 $? '' 'mend, of lines that ended by CR'
 
-all_cases 137
+all_cases 168

@@ -12,14 +12,14 @@ does() {
 # A lint: the input is read once, in its place among the files, and a file that isn't there keeps none back.
 wrong='-:2:1: error: [no-scheme]\n'
 does 1 "$wrong" 'urlcheck: 2 lines, 1 refused\n' 'urn:a\nx\n' lint -
-does 2 "$wrong" "urlcheck: no/such/file: can't be read: there is no such file\nurlcheck: 2 lines, 1 refused\n" \
+does 2 "$wrong" "urlcheck: no/such/file: can't be read: there is no such file\nurlcheck: 2 lines, 1 refused, 1 file not read\n" \
     'urn:a\nx\n' lint no/such/file --format gnu - -
 does 0 '' 'urlcheck: 2 lines, 0 refused\n' 'urn:a\nx\n' lint --base http://h/ -
 
 # A name after `--` is a file's, even an empty one and one that begins as an option.
 printf 'x\n' | tee "$room/a" >"$room/--all"
 scheme='1:1: error: [no-scheme]\n'
-does 2 "a:$scheme--all:$scheme" "urlcheck: '': can't be read: there is no such file\nurlcheck: 2 lines, 2 refused\n" '' \
+does 2 "a:$scheme--all:$scheme" "urlcheck: '': can't be read: there is no such file\nurlcheck: 2 lines, 2 refused, 1 file not read\n" '' \
     lint a -- --all ''
 rm -f "$room/a" "$room/--all"
 

@@ -50,9 +50,9 @@ places=$("$program" check --all 'http://a b:x/ %' | awk '{ print "1:" $2 + 1 " [
 expect 2 '' "$(no_base 7 host-domain 'U+0020 SPACE is not allowed in a domain')" lint --base 'http://h a/' links.txt
 expect 2 '' "$(no_base 0 no-scheme 'it has no scheme')" lint --base '' missing.txt
 formats='urlcheck: the formats: gnu caret json github sarif checkstyle junit gitlab rdjson\nwords\n'
-for name in GNU 'gnu,' gn jsan checkstle sarfi; do
+for name in GNU 'gnu,' gn jsan checkstle sarfi githab; do
     near=gnu
-    case $name in j*) near=json ;; c*) near=checkstyle ;; s*) near=sarif ;; esac
+    case $name in j*) near=json ;; c*) near=checkstyle ;; s*) near=sarif ;; gith*) near=github ;; esac
     expect 2 '' "urlcheck: no format is named '$name'; the nearest is $near\\n$formats" \
         lint --base 'a b' --format "$name" links.txt
 done
@@ -202,7 +202,6 @@ note: the same URL, written validly, is https://wixtoolset.org/.//documentation/
 meant.txt:2:14: error: [first-segment-empty]
 http://http://x
              ^
-note: the same URL, written validly, is http://http:/.//x
 meant.txt:3:3: error: [code-point]
 C:\\\\Users\\\\x
   ^
@@ -320,11 +319,11 @@ of_input 1 '-:2:1: error: [no-scheme]\n' 'urlcheck: 2 lines, 1 refused\n' \
     'urn:a\n\xef\xbb\xbfurn:a\n' -
 if has closed_streams 1; then
     "$program" lint - <&- >"$room/out" 2>"$room/err"
-    ends_with 2 $? "${no_input}urlcheck: 0 lines, 0 refused\\n" 'lint of a standard input that is closed'
+    ends_with 2 $? "${no_input}urlcheck: 0 lines, 0 refused, 1 file not read\\n" 'lint of a standard input that is closed'
 fi
 if has folder_input 2; then
     "$program" lint - <"$room" >"$room/out" 2>"$room/err"
-    ends_with 2 $? "${from_folder}urlcheck: 0 lines, 0 refused\\n" 'lint of a standard input that is a folder'
+    ends_with 2 $? "${from_folder}urlcheck: 0 lines, 0 refused, 1 file not read\\n" 'lint of a standard input that is a folder'
     (cd "$room" && "$program" lint --quiet - other.txt - missing <"$room") >"$room/out" 2>"$room/err"
     ends_with 2 $? "urlcheck: missing: can't be read: there is no such file\\n$from_folder" 'lint of a folder among files'
     wrote "$other" "$room/out" || fail "lint of a folder among files: it wrote $(cat "$room/out")"
@@ -332,24 +331,36 @@ fi
 
 # Files that can't be opened or read are reported by their names, and the others go on: one that isn't there, a folder, a
 # path through a file, one whose first read fails, and one that may not be read.
-expect 2 "$other" "urlcheck: missing: can't be read: there is no such file\\nurlcheck: 1 line, 1 refused\\n" \
+expect 2 "$other" "urlcheck: missing: can't be read: there is no such file\\nurlcheck: 1 line, 1 refused, 1 file not read\\n" \
     lint missing other.txt
 of_folders='urlcheck: lint reads files, not folders; urlcheck-documents FOLDER checks the documents in it\n'
 expect 2 "$other" "urlcheck: .: can't be read: it is a folder\\n${of_folders}urlcheck: '': can't be read: there is no such file\\n\
-urlcheck: 1 line, 1 refused\\n" lint . '' other.txt
+urlcheck: 1 line, 1 refused, 2 files not read\\n" lint . '' other.txt
 if has posix_paths 2; then
-    expect 2 "$other" "urlcheck: other.txt/x: can't be read: a part of its path is no folder\\nurlcheck: 1 line, 1 refused\\n" \
+    expect 2 "$other" "urlcheck: other.txt/x: can't be read: a part of its path is no folder\\nurlcheck: 1 line, 1 refused, 1 file not read\\n" \
         lint other.txt other.txt/x
     ln -s circle "$room/circle"
     expect 2 '' "urlcheck: circle: can't be read: its symbolic links lead in a circle\\n" lint --quiet circle right.txt
     rm "$room/circle"
 fi
+# The reasons of docs/ERRORS.md are the program's, also those that no file here brings about.
+count=$((count + 1))
+python3 - "$program" "$here/../../docs/ERRORS.md" >"$room/wrong" <<'PYTHON' || fail "reasons of docs/ERRORS.md: $(cat "$room/wrong")"
+import re, sys
+code = open(sys.argv[1], "rb").read()
+table = open(sys.argv[2], encoding="utf-8").read().split("## Reasons\n")[1].split("\n## ")[0]
+reasons = re.findall("`(: [^`]+)`", table)
+missing = [it for it in reasons if it.encode() not in code]
+print(len(reasons), *missing, sep="\n")
+# (what runs a program for another machine has no words of it)
+sys.exit(code.startswith(b"\x7fELF") and (bool(missing) or len(reasons) < 15))
+PYTHON
 if has proc 1; then
-    expect 2 '' "urlcheck: /proc/self/mem: can't be read\\nurlcheck: 2 lines, 0 refused\\n" lint /proc/self/mem right.txt
+    expect 2 '' "urlcheck: /proc/self/mem: can't be read\\nurlcheck: 2 lines, 0 refused, 1 file not read\\n" lint /proc/self/mem right.txt
 fi
 expect 2 '' "urlcheck: missing: can't be read: there is no such file\\n" lint --quiet missing right.txt
 expect 2 '' "urlcheck: a\\0357\\0277\\0275[2J\\0357\\0277\\0275b: can't be read: there is no such file\\n\
-urlcheck: 0 lines, 0 refused\\n" lint $'a\e[2J\nb'
+urlcheck: 0 lines, 0 refused, 1 file not read\\n" lint $'a\e[2J\nb'
 printf '\xff\n' >"$room/other.html"
 cp "$room/right.txt" "$room/right.html"
 if has file_modes 1; then
@@ -357,7 +368,7 @@ if has file_modes 1; then
     cp "$program" "$room/program"
     chmod 000 "$room/links.txt"
     (cd "$room" && as_nobody ./program lint links.txt other.txt) >"$room/out" 2>"$room/err"
-    ends_with 2 $? "urlcheck: links.txt: can't be read: permission denied\\nurlcheck: 1 line, 1 refused\\n" \
+    ends_with 2 $? "urlcheck: links.txt: can't be read: permission denied\\nurlcheck: 1 line, 1 refused, 1 file not read\\n" \
         'lint of a file that may not be read'
     wrote "$other" "$room/out" || fail "lint of a file that isn't permitted: it wrote $(cat "$room/out")"
     chmod 644 "$room/links.txt"
@@ -376,7 +387,7 @@ of_input 1 "p.md:7:8: error: [no-scheme]\nn:2:1: error: this line isn't FILE:LIN
 LINE is missing [not-located]\n" '' 'p.md:7:8:x\nx\n' -q --located --stdin-name n -
 if has folder_input 1; then
     "$program" lint --stdin-name n - <"$room" >"$room/out" 2>"$room/err"
-    ends_with 2 $? "${from_folder}urlcheck: 0 lines, 0 refused\\n" 'lint of a standard input that is a folder, under a name'
+    ends_with 2 $? "${from_folder}urlcheck: 0 lines, 0 refused, 1 file not read\\n" 'lint of a standard input that is a folder, under a name'
 fi
 unnamed='urlcheck: --stdin-name is the name of standard input: one of the FILEs has to be -\nwords\n'
 expect 2 '' "$unnamed" lint --stdin-name n other.txt
@@ -397,12 +408,12 @@ for end in html htm xhtml xht xml rss atom rdf svg md markdown MD; do
     expect 1 "page.$end:1:1: error: there is no scheme and no base$html [no-scheme]\n" '' lint --quiet page.$end
 done
 expect 2 "$other${bytes//links.txt:5/other.html:1}" "urlcheck: missing.md: can't be read: there is no such file\\n\
-${of_documents}urlcheck: 4 lines, 2 refused\\n" lint other.txt missing.md right.txt other.html
+${of_documents}urlcheck: 4 lines, 2 refused, 1 file not read\\n" lint other.txt missing.md right.txt other.html
 expect 0 '' 'urlcheck: 2 lines, 0 refused\n' lint right.html
 expect 1 "$other" 'urlcheck: 3 lines, 1 refused\n' lint right.html other.txt
 expect 1 "${bytes//links.txt:5/other.html:1}$other" "${of_documents}urlcheck: 4 lines, 2 refused\n" \
     lint other.html other.txt right.html
-expect 2 '' "urlcheck: missing.html: can't be read: there is no such file\\nurlcheck: 0 lines, 0 refused\\n" lint missing.html
+expect 2 '' "urlcheck: missing.html: can't be read: there is no such file\\nurlcheck: 0 lines, 0 refused, 1 file not read\\n" lint missing.html
 "$program" lint "$room/other.html" >/dev/full 2>"$room/err"
 ended=$?
 count=$((count + 1))
@@ -457,7 +468,7 @@ rm -rf "$room/folder" "$room/link" "$room/beside" "$room/"$'ends\n'
 # If there is no file of a name that looks like a link, a hint says what checks texts.
 of_links='urlcheck: lint reads files; check TEXT checks one text, and lint - the lines of standard input\n'
 expect 2 '' "urlcheck: http://h/: can't be read: there is no such file\\n$of_links" lint -q http://h/
-expect 2 '' "urlcheck: foo://: can't be read: there is no such file\\n${of_links}urlcheck: 0 lines, 0 refused\\n" lint -- foo://
+expect 2 '' "urlcheck: foo://: can't be read: there is no such file\\n${of_links}urlcheck: 0 lines, 0 refused, 1 file not read\\n" lint -- foo://
 for name in a:/b a:b //h/a; do
     expect 2 '' "urlcheck: $name: can't be read: there is no such file\\n" lint -q "$name"
 done
@@ -465,10 +476,10 @@ done
 # A name that isn't UTF-8 is reported by its number, and the other files are checked.
 printf 'x\n' >"$room/"$'\xff'
 if has byte_arguments 4; then
-    expect 2 "$other" "urlcheck: argument 4 isn't UTF-8\\nurlcheck: 1 line, 1 refused\\n" lint --all other.txt $'\xff'
+    expect 2 "$other" "urlcheck: argument 4 isn't UTF-8\\nurlcheck: 1 line, 1 refused, 1 file not read\\n" lint --all other.txt $'\xff'
     expect 2 '' "urlcheck: argument 2 isn't UTF-8\\nwords\\n" lint --base=$'\xff' $'\xff'
     expect 2 '' "urlcheck: argument 3 isn't UTF-8\\nwords\\n" lint --base $'\xff' other.txt
-    expect 2 "$other" "urlcheck: argument 3 isn't UTF-8\\nurlcheck: 1 line, 1 refused\\n" lint -- $'-\xff' other.txt
+    expect 2 "$other" "urlcheck: argument 3 isn't UTF-8\\nurlcheck: 1 line, 1 refused, 1 file not read\\n" lint -- $'-\xff' other.txt
 fi
 rm -f -- "$room/"$'\xff'
 
@@ -623,4 +634,4 @@ if has prlimit 1; then
         fail "lint of a million lines: it ends with $(tail -n 1 "$room/out")"
 fi
 rm -f "$room/million" "$room"/hostile.* "$room"/none.*
-all_cases 263
+all_cases 265

@@ -84,6 +84,7 @@ TWICE = "; this has two schemes: write one of them"
 READ_AS = "; what is before : is read as a scheme: write http:// before a host"
 PERHAPS = "; perhaps http or https is meant"
 LATER = "; a link begins after a space: write it by itself"
+AFTER = "; this looks like text after a link: write the link by itself"
 HTML = "; this looks like HTML: check the links in it"
 ESCAPE = "; %u isn't an escape of URLs: write those of UTF-8"
 JOINED = ("; write one slash", "; write one slash, or use --profile wide")
@@ -101,6 +102,8 @@ PORT = re.compile(r"\A[^/]*/[^/]*/[^/?#:]*:[Pp][Oo][Rr][Tt](?=[/?#]|\Z)")
 HOST = re.compile(r"\A[^/]*/[^/]*/(?=[^/?#:]*_)[A-Z0-9_]+(?=[/?#:]|\Z)")
 VARIABLE = re.compile(r"%(?![0-9A-Fa-f]{2})[A-Z][A-Z0-9_]+(?=%|\Z)")
 CODE = re.compile(r"(?:data|javascript)(?::|\Z)", re.I)
+# What is before the first space if it may well be a whole link, and what comes after it.
+WHOLE = re.compile(rf"{SCHEME}:(?:[^?# ]*(?:/|\.(?-i:html?|pdf|php))|[^/?# ]*/[^/?# ]*/[^/?# ]*\.[^/?# ]*) (.*)", re.A | re.I | re.S)
 # An escape that is cut off.
 CUT = re.compile("%[0-9A-Fa-f](?=%|\\Z)")
 # The schemes whose paths have rules of their own.
@@ -131,6 +134,10 @@ def meant(text):
         return PERHAPS
     if re.search(r"\A[^ ].* (?:https?://|www\.)", text, re.S):
         return LATER
+    whole = WHOLE.fullmatch(text)
+    words = whole[1].removesuffix(".") if whole else ""
+    if len(re.findall("[^ ]+", words)) > 1 and not re.search("[/.]", words):
+        return AFTER
     return ESCAPE if re.search("%u[0-9A-Fa-f]", text) else ""
 
 
@@ -233,7 +240,8 @@ for one, text, it, head in zip(found, texts, mended, read("hostile.gnu").split("
     want(len(part) <= 200 and line == shown(part), f"caret: {one}: {line[:40]!r} is shown")
     padding = "".join(width(c) for c in line[:place])
     want(caret == padding + "^", f"caret: {one} below {line[:40]!r} stands {caret[:40]!r}")
-    if it:
+    # (no note names what is mended where the sentence says which part is meant)
+    if it and (it[2] or meant(text) not in (TWICE, LATER)):
         words = "help: write " if it[2] else NAMED[it[0]]
         want(next(rows, "") == words + copied(window(it[1], one[2] - 1)[0]), f"caret: {one}: no help, or another")
 want(next(rows, None) is None, "caret: further lines")

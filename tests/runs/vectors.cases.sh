@@ -26,6 +26,7 @@ vector_file() { printf '%b' "$1" >"$room/vectors.json"; }
 # no_case NUMBER REASON : the line on standard error about a value that isn't a case
 no_case() { printf '%s' "urlcheck: vector $1: $2\\nvector $1 malformed\\n"; }
 either='it has to have either "text" or both "place" and "rule"'
+object='it has to be an object with "input" and "text", or "input", "place" and "rule"'
 digits='"place" has to be a number in digits alone, below 2^64'
 
 # The cases that fail are named, and a case that is malformed keeps all others from being checked.
@@ -87,8 +88,8 @@ malformed() {
         expect 2 '' "$(no_case "$number" "$reason")" vectors vectors.json
     done
 }
-malformed 1 'it is no object' '[1]' '[[]]'
-malformed 2 'it is no object' '[{"input":"urn:a","text":"x"},1,{}]'
+malformed 1 "$object" '[1]' '[[]]'
+malformed 2 "$object" '[{"input":"urn:a","text":"x"},1,{}]'
 malformed 1 "$either" '[{"input":"a"}]'
 malformed 2 "$digits" '[{"input":"urn:a","text":"urn:a"},{"input":"x","place":-1,"rule":"no-scheme"}]'
 malformed 2 "$either" '[{"input":"urn:a","text":"x"},{"input":"x"},{"input":"y"}]'
@@ -156,13 +157,22 @@ not_json 1 16 "$unreadable" '[{"input":"\xc3\xa9\xe6\x97\xa5",}]' '[{"input":"x"
 not_json 2 25 "$unreadable" '[\n{"input": "a\xc3\xa9", "text": x}\n]'
 not_json 3 2 "$unreadable" '[]\n\n x'
 
-# What isn't UTF-8 is named before all else, and a number beyond floats and arrays of which one is within 128 others by
-# what is after them.
+# What isn't UTF-8 is named before all else, a number beyond floats by what is after it, and of arrays that are too deep the
+# limit.
 not_json 1 3 "this isn't UTF-8" '["\xff"]' '["\xff' '[[\xff[x'
 not_json 2 2 "this isn't UTF-8" '[\xc3\xa9\n"\xc3"]'
 not_json 1 7 "$unreadable" '[1e999]'
 head -c 1000000 /dev/zero | tr '\0' '[' >"$room/vectors.json"
-expect 2 '' "urlcheck: vectors.json: line 1, column 129: $unreadable\\nvectors not json\\n" vectors vectors.json
+too_deep='urlcheck: vectors.json: at most 127 arrays and objects may be within one another\nvectors not json\n'
+expect 2 '' "$too_deep" vectors vectors.json
+# nested COUNT INNER : a file with so many arrays and objects within one another, and this text in the innermost array
+nested() {
+    { printf '[{"":%.0s' $(seq $(($1 / 2))); printf '[%.0s' $(seq $(($1 % 2))); printf '%s' "$2"; } >"$room/vectors.json"
+}
+nested 127 '"\"[[[["x'
+expect 2 '' "urlcheck: vectors.json: line 1, column $(wc -c <"$room/vectors.json"): $unreadable\\nvectors not json\\n" vectors vectors.json
+nested 129 ''
+expect 2 '' "$too_deep" vectors vectors.json
 
 # The name of the file is shown as a terminal may have it.
 printf '[' >"$room/$(printf 'a\033b')"
@@ -174,16 +184,17 @@ rm -f "$room/$(printf 'a\033b')"
 # JSON texts that aren't array.
 for text in '{"input":"urn:a","text":"urn:a"}' '{}' null '"[]"'; do
     vector_file "$text"
-    expect 2 '' 'vectors not an array\n' vectors vectors.json
+    expect 2 '' 'urlcheck: vectors.json: it has to be an array of cases\nvectors not an array\n' vectors vectors.json
 done
 
 # A file of the most bytes is read; one of a byte more, and one of 17 MB, are too large, whatever they hold.
+too_large='urlcheck: vectors.json: it may have at most 16777216 bytes\nvectors too large\n'
 { printf '[]'; head -c 16777214 /dev/zero | tr '\0' ' '; } >"$room/vectors.json"
 expect 0 'vectors 0 pass 0 fail 0\n' '' vectors vectors.json
 printf ' ' >>"$room/vectors.json"
-expect 2 '' 'vectors too large\n' vectors vectors.json
+expect 2 '' "$too_large" vectors vectors.json
 head -c 17000000 /dev/zero >"$room/vectors.json"
-expect 2 '' 'vectors too large\n' vectors vectors.json
+expect 2 '' "$too_large" vectors vectors.json
 
 # A hundred thousand cases, of which each thousandth fails.
 {
@@ -232,4 +243,4 @@ vector_file '[]'
 (cd "$room" && "$program" vectors vectors.json) >/dev/full 2>"$room/err"
 ends_with 3 $? "${no_space}write\\n" 'vectors, into a full device'
 
-all_cases 115
+all_cases 117

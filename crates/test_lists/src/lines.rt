@@ -51,7 +51,7 @@ impl Reporter for Lengths {
     }
 }
 
-// Appends what is said about a line with this number.
+// Appends the report on a line with this number.
 fn push_length(
     alloc: Global,
     number: u64,
@@ -123,8 +123,8 @@ fn reports_on_lines_in_order(rt: HostRuntime) {
     says(&rt, b"abcdefgh", 100, Ok(()), 1, "<1:- .>");
 }
 
-// A line after the last one that may come is a fault. What was said about the lines before it is written, and the end
-// of the frame, but not what is said after the last line.
+// A line after the last one that may come is a fault. The reports on the lines before it are written, and the end of
+// the frame, but not the text after the last line.
 #[test]
 fn stops_after_the_last_line_that_may_come(rt: HostRuntime) {
     let fault = Err(LineFault::Stop(StopFault::TooManyLines));

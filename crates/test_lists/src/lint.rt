@@ -12,7 +12,7 @@ use uv_io::{DeviceFault, Sink};
 use uv_lines::{LineLimits, StopFault};
 use uv_lint::{LineForm, LintCounts, LintSetting, run_lint, run_within};
 use uv_model::{Extent, Profile};
-use uv_report::{Columns, Format};
+use uv_report::{Columns, Format, Look};
 
 const LIST: &[u8] = b"b\r\nhttp://h/\n\n\xff\nurn:a b";
 
@@ -33,6 +33,7 @@ const SETTING: LintSetting<'static> = LintSetting {
     profile: Profile::Standard,
     extent: Extent::First,
     format: Format::Checkstyle,
+    look: Look::Plain,
     columns: Columns::CodePoints,
     form: LineForm::Plain,
 };
@@ -157,7 +158,7 @@ fn reports_each_failed_write(rt: HostRuntime) -> Result<(), Fail> {
     fails_each_write(&rt, 1_000)
 }
 
-// The end fails after a failed read: the failed write is reported, and the counts are those of the lines before.
+// The end fails after a failed read: the failed write is reported, and the counts are of the lines before.
 #[test]
 fn reports_a_failed_write_after_a_failed_read(rt: HostRuntime) -> Result<(), Fail> {
     let reads = [Ok(b"b\nurn".as_slice()), Err(DeviceFault)];

@@ -1,5 +1,7 @@
 mod CheckLemmas
+mod InPlaceLemmas
 mod LintLemmas
 mod ListLemmas
 mod MendLemmas
 mod ProgramLemmas
+mod SaidLemmas

@@ -1,4 +1,4 @@
--- What is said of a text that is to be mended against the URL of the base.
+-- The answer about a text that is to be mended against the URL of the base.
 use Rattle.std.proofs.Common.{◌≡◌, ℕ, List, Option}
 use Rattle.std.specs.Borrow.{Bor}
 use Rattle.uv_model.specs.declared.profile.Profile.{Profile}

@@ -7,9 +7,8 @@ use Rattle.uv_links.specs.declared.counts.Counts.{Counts}
 use Rattle.uv_links.specs.declared.fault.LinkFault.{LinkFault}
 use Rattle.uv_links.specs.declared.fault.LinkFault.TheVariants as link
 use Rattle.uv_lines.specs.declared.fault.StopFault.TheVariants.{Write}
-use Rattle.uv_arguments.specs.declared.reading.WordsFault.{WordsFault}
-use Rattle.uv_arguments.specs.declared.reading.WordsFault.TheVariants as words
-use Rattle.uv_arguments.specs.Requests.{asks_to_show}
+use Rattle.uv_arguments.specs.declared.words_fault.Reason.{Reason}
+use Rattle.uv_arguments.specs.declared.words_fault.Reason.TheVariants as reason
 use Rattle.uv_cli.specs.declared.check.CheckEnd.{CheckEnd}
 use Rattle.uv_cli.specs.declared.check.CheckEnd.TheVariants as check
 use Rattle.uv_cli.specs.declared.explain.ExplainEnd.{ExplainEnd}
@@ -68,10 +67,11 @@ abbrev pub end_without_file : FileFault → End
 end_without_file file.Memory = Fault cli.Memory
 end_without_file (file.Unread reason) = Unread
 
--- the end where the arguments give no job
-abbrev pub end_without_job : WordsFault → End
-end_without_job words.Memory = Fault cli.Memory
-end_without_job (words.Words error) = if asks_to_show (words.Words error) then Shown else Words
+-- the end where the arguments give no job for this reason
+abbrev pub end_without_job : Reason → End
+end_without_job reason.Memory = Fault cli.Memory
+end_without_job reason.Shown = Shown
+end_without_job _ = Words
 
 -- the end once the output is out, or isn't: then what was printed is not whole
 abbrev pub end_after_output : End → Bool → End
@@ -125,7 +125,7 @@ listed_text link.BaseDiffers = codes "base differs\n"
 unfoldable pub malformed_text : ℕ → List ℕ
 malformed_text number = codes "vector " ++ (decimal number ++ codes " malformed\n")
 
--- the line of a vector file that isn't run, where it is words alone
+-- the line of a vector file that isn't run, where it has only words
 abbrev pub fixed_vectors_text : VectorEnd → Option (List ℕ)
 fixed_vectors_text vectors.AllPass = Some []
 fixed_vectors_text vectors.SomeFail = Some []
@@ -134,7 +134,7 @@ fixed_vectors_text vectors.NotArray = Some (codes "vectors not an array\n")
 fixed_vectors_text vectors.TooLarge = Some (codes "vectors too large\n")
 fixed_vectors_text (vectors.Malformed number) = None
 
--- the last line on standard error where it is words alone, or nothing: no memory is needed for it
+-- the last line on standard error where it has only words, or nothing: no memory is needed for it
 abbrev pub fixed_text : End → Option (List ℕ)
 fixed_text Valid = Some []
 fixed_text Refused = Some []

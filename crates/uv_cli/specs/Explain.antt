@@ -7,7 +7,7 @@ use Rattle.uv_cli.specs.declared.explain.ExplainEnd.{ExplainEnd}
 use Rattle.uv_cli.specs.declared.explain.ExplainEnd.TheVariants.{Explained, Unknown}
 use Rattle.uv_messages.specs.Explanations.{IsExplained, are_explained}
 
--- what is said of these names was written, or one of them belongs to no rule and to no violation
+-- the explanation of these names was written, or one of them belongs to no rule and to no violation
 abbrev pub HasExplained : List (String Global) → Told → ExplainEnd → Option (List ℕ) → Option (List ℕ) → Type 0
 HasExplained rules told Explained old new =
     (text : List ℕ) × IsExplained rules told text × Appends old new text

@@ -69,20 +69,3 @@ HasFiltered asked base name (end.Filtered filtered) input rest old new =
     (url : Option Url) × (kinds : WrittenKinds) × IsBase asked.profile base url × (kinds_of Every name ≡ Some kinds)
     × IsFiltered (mender_of asked url kinds) asked.quiet filtered input rest old new
 HasFiltered asked base name _ input rest old new = ⊥
-
--- all these bytes were read, what a filter writes of their lines was written, and these are its counts
-abbrev pub HasWrittenMended : Mender → Option (List ℕ) → Option (List ℕ) → Option (List ℕ) → FilterCounts → Type 0
-HasWrittenMended mender bytes old new counts =
-    (read : List ℕ) × (rest : Option (List ℕ)) × (now : Filtering) × Consumes bytes rest read × IsAtEnd rest
-    × Wrote (starting mender) (all_lines read) old new now × (counts ≡ now.counts)
-
--- How the mending of files in their place ends, by the texts that the job has. The kind is found first, and then the
--- base is checked alone, before a file is opened. What a file gives and takes no clause can say.
-abbrev pub HasMendedFiles : FilterJob → Option (Bor (List ℕ)) → Option (Bor (List ℕ)) → End → Type 0
-HasMendedFiles asked base name end.UnknownKind = kinds_of (file_kinds asked.all) name ≡ None
-HasMendedFiles asked base name (end.BaseRefused refusal) = IsBaseRefused asked.profile base refusal
-HasMendedFiles asked base name (end.Fault cli.Memory) = Unit {0}
-HasMendedFiles asked base name (end.Filtered filtered) =
-    (url : Option Url) × (kinds : WrittenKinds) × IsBase asked.profile base url
-    × (kinds_of (file_kinds asked.all) name ≡ Some kinds) × (filtered.is_quiet ≡ asked.quiet)
-HasMendedFiles asked base name _ = ⊥

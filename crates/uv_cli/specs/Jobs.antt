@@ -1,5 +1,5 @@
 -- What a job has done with its streams, by the end that it gave.
-use Rattle.std.specs.Prelude.{◌≡◌, ◌≢◌, ◌≤◌, ℕ, ◌+◌, ◌==◌, Bool, false, true, List, Option, String, length}
+use Rattle.std.specs.Prelude.{◌≡◌, ◌≢◌, ◌≤◌, ℕ, ◌+◌, ◌==◌, Bool, false, true, List, Option, None, String, length}
 use Rattle.std.specs.Prelude.{option_map, string_bytes}
 use Rattle.std.specs.Borrow.{Bor}
 use Rattle.std.specs.Io.KnownBytes.{Consumes, IsAtEnd}
@@ -22,15 +22,18 @@ use Rattle.uv_arguments.specs.declared.jobs.Job.TheVariants as job
 use Rattle.uv_arguments.specs.declared.jobs.LintJob.{LintJob}
 use Rattle.uv_arguments.specs.declared.jobs.Told.{Told}
 use Rattle.uv_cli.specs.declared.check.CheckEnd.TheVariants as check
+use Rattle.uv_cli.specs.declared.check.RefusedText.{RefusedText}
 use Rattle.uv_cli.specs.declared.explain.ExplainEnd.TheVariants as explain
 use Rattle.uv_cli.specs.declared.fault.CliFault.TheVariants as cli
 use Rattle.uv_cli.specs.declared.ends.End.{End}
 use Rattle.uv_cli.specs.declared.ends.End.TheVariants as end
-use Rattle.uv_cli.specs.Check.{HasWritten, HasWrittenPrefix, RunsAgainst}
+use Rattle.uv_cli.specs.declared.jobs.Done.{Done}
+use Rattle.uv_cli.specs.Check.{HasWritten, HasWrittenPrefix, IsKeptAt, RunsAgainst}
 use Rattle.uv_cli.specs.Stream.{Stream}
 use Rattle.uv_cli.specs.Explain.{HasExplained, HasExplainedPrefix}
 use Rattle.uv_cli.specs.Lint.{HasLinted}
-use Rattle.uv_cli.specs.Filter.{HasFiltered, HasMendedFiles}
+use Rattle.uv_cli.specs.Filter.{HasFiltered}
+use Rattle.uv_cli.specs.InPlace.{HasMendedFiles, any_opens, any_replaces, any_stays}
 use Rattle.uv_cli.specs.Mend.{HasMended}
 
 -- ---- a check
@@ -142,14 +145,25 @@ HasDoneFilter asked end input rest old new =
     AtLent asked.base (λ base. AtLent asked.only (λ only. HasFiltered asked base only end input rest old new))
 
 -- how the mending of the lines of files in their place ends: refused if no file is named
-abbrev pub EndsInPlace : Bool → FilterJob → End → Type 0
-EndsInPlace true asked ended = ended ≡ end.Words
-EndsInPlace false asked ended =
-    AtLent asked.base (λ base. AtLent asked.only (λ only. HasMendedFiles asked base only ended))
+abbrev pub EndsInPlace : Bool → List (String Global) → FilterJob → End → Type 0
+EndsInPlace true files asked ended = ended ≡ end.Words
+EndsInPlace false files asked ended =
+    AtLent asked.base (λ base. AtLent asked.only (λ only.
+    HasMendedFiles any_opens any_replaces any_stays files asked base only ended))
 
 -- how it ends by the names of the files
 abbrev pub HasDoneInPlace : List (String Global) → FilterJob → End → Type 0
-HasDoneInPlace files asked ended = EndsInPlace (length files == 0) asked ended
+HasDoneInPlace files asked ended = EndsInPlace (length files == 0) files asked ended
+
+-- a job that ended so, of whose text nothing is kept
+abbrev pub ended : End → Done
+ended end = record { end = end; refused = None }
+
+-- what is kept of the job's text is true of it
+abbrev pub IsKeptOf : Job → Option RefusedText → Type 0
+IsKeptOf (job.Check text base extent profile) kept =
+    AtLent base (λ lent. IsKeptAt extent profile lent (chars (string_bytes text)) kept)
+IsKeptOf other kept = kept ≡ None
 
 -- what the job has read and written, where its file has these bytes
 abbrev pub HasDone : Job → List ℕ → End → Stream → Stream → Stream → Stream → Type 0

@@ -11,6 +11,7 @@ pub mod Linted
 pub mod Mend
 pub mod Filtered
 pub mod Filter
+pub mod InPlace
 pub mod Program
 pub mod Said
 pub mod VectorFile

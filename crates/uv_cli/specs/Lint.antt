@@ -11,6 +11,8 @@ use Rattle.uv_model.specs.Records.Url.{Url}
 use Rattle.uv_report.specs.declared.places.column.Columns.{Columns}
 use Rattle.uv_report.specs.declared.format.Format.{Format}
 use Rattle.uv_report.specs.declared.format.Format.TheVariants.{Gnu}
+use Rattle.uv_report.specs.declared.look.Look.{Look}
+use Rattle.uv_report.specs.declared.look.Look.TheVariants as look
 use Rattle.uv_report.specs.Places.Column.{named_columns}
 use Rattle.uv_report.specs.Format.{named_format, own_columns, takes_columns}
 use Rattle.uv_report.specs.Report.{begin_text, end_text}
@@ -25,6 +27,8 @@ use Rattle.uv_lint.specs.LineViolations.{FileSetting}
 use Rattle.uv_lint.specs.Report.{none_counted}
 use Rattle.uv_lint.specs.Run.{FailsReads, Leaves, Reports}
 use Rattle.uv_resolve.specs.Base.{IsBase, IsBaseRefused}
+use Rattle.uv_arguments.specs.declared.colours.Colours.{Colours}
+use Rattle.uv_arguments.specs.declared.colours.Colours.TheVariants as colours
 use Rattle.uv_arguments.specs.declared.jobs.LintJob.{LintJob}
 use Rattle.uv_cli.specs.declared.ends.End.{End}
 use Rattle.uv_cli.specs.declared.ends.End.TheVariants as end
@@ -35,7 +39,7 @@ use Rattle.uv_cli.specs.Linted.{completion_of, is_clean, is_stopped, is_writable
 
 -- ---- what the job asks for
 
--- the format with this name, or the one of compilers if none is named
+-- the format with this name, or the format of compilers if none is named
 abbrev pub format_of : Option (Bor (List ℕ)) → Option Format
 format_of None = Some Gnu
 format_of (Some name) = named_format name.now
@@ -49,6 +53,12 @@ columns_of format (Some name) = named_columns name.now
 abbrev pub form_of : Bool → LineForm
 form_of true = Located
 form_of false = Plain
+
+-- how the report looks: in colours where they are always asked for
+abbrev pub look_of : Colours → Look
+look_of colours.Always = look.Coloured
+look_of colours.Auto = look.Plain
+look_of colours.Never = look.Plain
 
 -- the name under which standard input is reported on: the one that the job gives, or `-`
 abbrev pub input_name : LintJob → List ℕ
@@ -70,6 +80,7 @@ setting_of asked base format columns file = record {
   profile = asked.profile;
   extent = asked.extent;
   format = format;
+  look = look_of asked.colours;
   columns = columns;
   form = form_of asked.located;
 }

@@ -14,7 +14,7 @@ use Rattle.uv_cli.specs.Stopped.{stopped_text}
 abbrev pub no_file : Bool → Linted
 no_file is_quiet = record {
   counts = none_counted;
-  is_unread = false;
+  unread = 0;
   is_input_unread = false;
   is_document_refused = false;
   stopped = None;
@@ -35,7 +35,7 @@ with_fault linted fault = record linted { stopped = Some fault }
 -- after a file that can't be opened, or not be read to its end: the standard input, or another one
 abbrev pub with_unread : Linted → Bool → Linted
 with_unread linted is_input =
-    record linted { is_unread = true; is_input_unread = is_input || linted.is_input_unread }
+    record linted { unread = min (linted.unread + 1) (2 ^ 64 - 1); is_input_unread = is_input || linted.is_input_unread }
 
 -- a line of these was refused
 abbrev pub has_refused : LintCounts → Bool
@@ -72,21 +72,32 @@ is_clean linted = linted.counts.refused == 0
 
 -- how the run over the files has ended
 abbrev pub completion_of : Linted → Completion
-completion_of linted = if is_stopped linted then Stopped else if linted.is_unread then Unread else Whole
+completion_of linted = if is_stopped linted then Stopped else if linted.unread == 0 then Whole else Unread
 
 -- the exit status
 abbrev pub lint_status : Linted → ℕ
 lint_status linted =
-    if is_stopped linted then 3 else if linted.is_unread then 2 else if is_clean linted then 0 else 1
+    if is_stopped linted then 3 else if not (linted.unread == 0) then 2 else if is_clean linted then 0 else 1
 
--- the line of counts
-unfoldable pub counts_text : LintCounts → List ℕ
-counts_text counts =
+-- how many lines were checked, and in how many something was found
+unfoldable pub lines_text : LintCounts → List ℕ
+lines_text counts =
     codes "urlcheck: " ++ (decimal counts.lines ++ (codes " "
     ++ ((if counts.lines == 1 then codes "line" else codes "lines")
-    ++ (codes ", " ++ (decimal counts.refused ++ codes " refused\n")))))
+    ++ (codes ", " ++ (decimal counts.refused ++ codes " refused")))))
+
+-- how many files weren't read
+unfoldable pub unread_text : ℕ → List ℕ
+unread_text unread =
+    codes ", " ++ (decimal unread ++ (codes " " ++ ((if unread == 1 then codes "file" else codes "files")
+    ++ codes " not read")))
+
+-- the line of counts, with how many files weren't read, if one wasn't
+abbrev pub counts_text : LintCounts → ℕ → List ℕ
+counts_text counts unread =
+    (lines_text counts ++ (if unread == 0 then [] else unread_text unread)) ++ codes "\n"
 
 -- the lines on standard error
 abbrev pub linted_text : Linted → List ℕ
 linted_text linted =
-    (if linted.is_quiet then [] else counts_text linted.counts) ++ stopped_text linted.stopped
+    (if linted.is_quiet then [] else counts_text linted.counts linted.unread) ++ stopped_text linted.stopped

@@ -1,4 +1,4 @@
--- What is said of a text that is to be mended, and what is written of it.
+-- The answer about a text that is to be mended, and what is written of it.
 use Rattle.std.specs.Prelude.{◌≡◌, ℕ, ◌+◌, List, ◌++◌, Option, codes, string_bytes, take}
 use Rattle.std.specs.Borrow.{Bor}
 use Rattle.std.specs.Io.KnownBytes.{Appends}

@@ -1,12 +1,14 @@
 -- How the program ends, by its arguments and by what its job came to.
-use Rattle.std.specs.Prelude.{◌≡◌, ◌⊎◌, ℕ, Bool, false, true, List, Option, Some, None, Result, Ok, Err}
+use Rattle.std.specs.Prelude.{◌≡◌, ◌⊎◌, ℕ, Bool, false, List, Option, Some, None, Result, Ok, Err}
 use Rattle.std.specs.Io.KnownBytes.{Keeps}
 use Rattle.std.specs.declared.io.ErrorKind.{ErrorKind}
 use Rattle.uv_cli.specs.declared.fault.CliFault.TheVariants as cli
-use Rattle.uv_arguments.specs.Requests.{asks_to_show}
+use Rattle.uv_arguments.specs.Requests.{reason_of}
 use Rattle.uv_arguments.specs.declared.jobs.Job.{Job}
 use Rattle.uv_arguments.specs.declared.jobs.Job.TheVariants as job
-use Rattle.uv_arguments.specs.declared.reading.WordsFault.{WordsFault}
+use Rattle.uv_arguments.specs.declared.words_fault.Reason.{Reason}
+use Rattle.uv_arguments.specs.declared.words_fault.Reason.TheVariants as reason
+use Rattle.uv_arguments.specs.declared.words_fault.WordsFault.{WordsFault}
 use Rattle.uv_cli.specs.Ends.{end_without_file, end_without_job, fixed_text, status_of}
 use Rattle.uv_cli.specs.Flushed.{ended_after, open_end}
 use Rattle.uv_cli.specs.Jobs.{HasDone}
@@ -47,17 +49,17 @@ HasEndedJob asked ended =
 -- ---- no job
 
 -- help was shown, or wasn't; a refusal was reported
-abbrev pub HasShown : WordsFault → Ended → Type 0
-HasShown fault ended =
-    (ended ≡ open_end (end_without_job fault))
-    ⊎ ((asks_to_show fault ≡ true)
-    × ((kind : Option ErrorKind) × (ended ≡ ended_after (end_without_job fault) false kind)))
+abbrev pub HasShown : Reason → Ended → Type 0
+HasShown why ended =
+    (ended ≡ open_end (end_without_job why))
+    ⊎ ((why ≡ reason.Shown)
+    × ((kind : Option ErrorKind) × (ended ≡ ended_after (end_without_job why) false kind)))
 
 -- what the words ask for was done, or it was said why there is nothing to do
 abbrev pub HasAnswered : Result (Option Job) WordsFault → Ended → Type 0
 HasAnswered (Ok (Some asked)) ended = HasEndedJob asked ended
 HasAnswered (Ok None) ended = ended ≡ open_end end.Words
-HasAnswered (Err fault) ended = HasShown fault ended
+HasAnswered (Err fault) ended = HasShown (reason_of fault) ended
 
 -- ---- the status
 

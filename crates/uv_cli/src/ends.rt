@@ -11,7 +11,7 @@ use crate::filtered::Filtered;
 use crate::linted::Linted;
 use crate::vector_file::FileFault;
 use std::alloc::{AllocError, Global};
-use uv_arguments::WordsFault;
+use uv_arguments::Reason;
 use uv_lines::StopFault;
 use uv_links::{Counts, LinkFault};
 use uv_model::Refusal;
@@ -115,19 +115,14 @@ pub(crate) fn end_without_file(fault: FileFault) -> End
     }
 }
 
-/// The end if the arguments give no job.
-pub(crate) fn end_without_job(fault: &WordsFault) -> End
-    ensures { result ≡ spec.end_without_job fault.now }
+/// The end if the arguments give no job for this reason.
+pub(crate) fn end_without_job(reason: Reason) -> End
+    ensures { result ≡ spec.end_without_job reason }
 {
-    match fault {
-        WordsFault::Memory => End::Fault(CliFault::Memory),
-        WordsFault::Words(_) => {
-            if fault.asks_to_show() {
-                End::Shown
-            } else {
-                End::Words
-            }
-        }
+    match reason {
+        Reason::Memory => End::Fault(CliFault::Memory),
+        Reason::Shown => End::Shown,
+        _ => End::Words,
     }
 }
 
@@ -167,7 +162,7 @@ pub fn status(end: End) -> u8
     }
 }
 
-/// What is said on standard error at the end: the last line, which tells a script why there is a status above 1, or
+/// The message on standard error at the end: the last line, which tells a script why there is a status above 1, or
 /// nothing; for a lint and a filter also the counts.
 pub fn error_line(alloc: Global, end: End) -> Result<String, AllocError>
     ensures { IfOk result (λ text. string_bytes text ≡ error_text end) }

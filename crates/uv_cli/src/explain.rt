@@ -1,5 +1,5 @@
-//! The command `explain`: for some rules or each, what they require, their sections of the URL Standard, and an
-//! example; or the addresses of these sections.
+//! The command `explain`: for some rules or each, what they require and why, an example, and their sections of the URL
+//! Standard; or the addresses of these sections.
 ghost use Rattle.std.specs.Prelude.{◌≡◌, ◌+◌, ◌-◌, ◌^◌, ◌<◌, IfOk, OnOk};
 ghost use Rattle.uv_cli.specs.Explain.{HasExplained, HasExplainedPrefix};
 
@@ -14,15 +14,15 @@ use uv_messages::explanations::explained;
 pub enum ExplainEnd {
     /// What was asked for was written.
     Explained,
-    /// The name is neither a rule's nor that of another violation of a line. Nothing was written.
+    /// The name belongs neither to a rule nor to another violation of a line. Nothing was written.
     Unknown,
 }
 
-/// Writes what the rules with these names require, where the Standard says so, and an example of each, in the order of
-/// the names, with an empty line between them. Without a name it writes this for every rule, in the order of their
-/// numbers. For the name of a violation by which a line isn't checked, it writes what a line has to be. If `told` asks
-/// for addresses, it writes for each rule the address of its section of the URL Standard, in a line, or nothing if it
-/// has none.
+/// Writes what the rules with these names require and why, an example of each, and where the Standard says so, in the
+/// order of the names, with two empty lines between them. Without a name it writes this for every rule, in the order of
+/// their numbers. For the name of a violation by which a line isn't checked, it writes what a line has to be. If `told`
+/// asks for addresses, it writes for each rule the address of its section of the URL Standard, in a line, or nothing if
+/// it has none.
 ///
 /// An error of memory leaves the output as it was; an error of a write leaves a beginning of what was to be written.
 pub fn run_explain<S: Sink>(

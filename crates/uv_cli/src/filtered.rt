@@ -98,7 +98,7 @@ impl Filtered {
         }
     }
 
-    /// What is said on standard error at the end: the counts, if they are wanted, and what stopped the filter.
+    /// The message on standard error at the end: the counts, if they are wanted, and what stopped the filter.
     pub(crate) fn error_lines(self, alloc: Global) -> Result<String, AllocError>
         ensures { IfOk result (λ lines. string_bytes lines ≡ filtered_text self) }
     {

@@ -1,12 +1,12 @@
 //! A job and the run that it asks for, over any reader and writer.
-ghost use Rattle.std.specs.Prelude.{◌-◌, ◌^◌, ◌<◌, chars};
-ghost use Rattle.uv_cli.specs.Check.{RunsAgainst};
+ghost use Rattle.std.specs.Prelude.{◌≡◌, ◌-◌, ◌^◌, ◌<◌, chars};
+ghost use Rattle.uv_cli.specs.Check.{IsKeptAt, RunsAgainst};
 ghost use Rattle.uv_cli.specs.Jobs.{HasChecked, HasDone, HasDoneFilter, HasDoneInPlace, HasDoneLint};
-ghost use Rattle.uv_cli.specs.Jobs.{HasRunExplain, HasRunVectors};
+ghost use Rattle.uv_cli.specs.Jobs.{HasRunExplain, HasRunVectors, IsKeptOf, ended};
 ghost use Rattle.uv_cli.specs.Mend.{HasMended};
 ghost use Rattle.uv_cli.specs.Stream.{stream};
 
-use crate::check::{run_check, run_faults};
+use crate::check::{Checked, RefusedText, check_with_base};
 use crate::ends::{End, end_of_check, end_of_explanation, end_of_vectors};
 use crate::explain::run_explain;
 use crate::filter::filter_lines;
@@ -15,6 +15,7 @@ use crate::links::list_links;
 use crate::lint::lint_files;
 use crate::malformed_vectors::said_of_vectors;
 use crate::mend::run_mend;
+use crate::store::OwnFiles;
 use std::alloc::Global;
 use std::fs::Files;
 use uv_arguments::{FilterJob, Job, LintJob, Told};
@@ -22,6 +23,23 @@ use uv_io::{Sink, Source};
 use uv_messages::messages::say;
 use uv_model::{Extent, Profile};
 use uv_vectors::run_cases;
+
+/// How a job ends, and what is kept of the text of a check that is refused.
+#[derive(Drop)]
+pub struct Done {
+    /// The end.
+    pub end: End,
+    /// What is kept of the refused text, for the sentences on it.
+    pub(crate) refused: Option<RefusedText>,
+}
+
+impl From<End> for Done {
+    ghost from_gives = { λ end done. done ≡ ended end };
+
+    fn from(end: End) -> Done {
+        Done { end, refused: None }
+    }
+}
 
 /// Does what a job asks for. It checks the job's text, against the job's base and under the profile that the job names,
 /// or says what to write in its place; it says what is wrong with the lines of the job's files; it reports on the lines
@@ -36,21 +54,29 @@ pub fn run_job<R: Files + Eprint + AllocGlobal, I: Source, S: Sink>(
     file: &[u8],
     input: &mut I,
     out: &mut S,
-) -> End
+) -> Done
     requires reads { I.failed input.old < 2 ^ 64 - 1 }
     requires writes { S.failed out.old < 2 ^ 64 - 1 }
-    ensures { HasDone job.now file.now result
+    ensures done { HasDone job.now file.now result.end
         (stream (I.remaining input.old) (I.failed input.old)) (stream (I.remaining input.new) (I.failed input.new))
         (stream (S.contents out.old) (S.failed out.old)) (stream (S.contents out.new) (S.failed out.new)) }
+    ensures kept { IsKeptOf job.now result.refused }
 {
     let alloc = rt.alloc();
-    match job {
+    let end = match job {
         Job::Check {
             text,
             base,
             extent,
             profile,
-        } => check_text(rt, text.as_str(), base.as_deref(), *extent, *profile, out),
+        } => return check_text(
+            alloc,
+            text.as_str(),
+            base.as_deref(),
+            *extent,
+            *profile,
+            out,
+        ),
         Job::Lint(asked) => lint_asked(rt, asked, input, out),
         Job::LintWithoutInput | Job::LintUnnamed | Job::UnknownColours { .. } => End::Words,
         Job::Links { base, profile } => list_links(alloc, base.as_deref(), *profile, input, out),
@@ -65,7 +91,8 @@ pub fn run_job<R: Files + Eprint + AllocGlobal, I: Source, S: Sink>(
         Job::Vectors { file: name } => vectors_run(rt, name.as_str(), file, out),
         Job::Explain { rules, told } => explained(alloc, rules.as_slice(), *told, out),
         Job::UnknownProfile { .. } => End::UnknownProfile,
-    }
+    };
+    Done::from(end)
 }
 
 // Says what is wrong with the lines of a lint's files.
@@ -124,6 +151,7 @@ fn files_asked<R: Files + Eprint + AllocGlobal>(rt: &R, files: &[String], asked:
     }
     mend_files(
         rt,
+        &OwnFiles::new(rt),
         files,
         asked,
         asked.base.as_deref(),
@@ -168,28 +196,33 @@ fn vectors_run<R: Eprint + AllocGlobal, S: Sink>(
 {
     let gave = run_cases(rt.alloc(), file, out);
     if let Ok(end) = &gave {
-        say(rt, said_of_vectors(rt.alloc(), name, end));
+        say(rt, said_of_vectors(rt.alloc(), name, file, end));
     }
     end_of_vectors(&gave)
 }
 
 // Checks a text, alone or against a base.
-fn check_text<R: AllocGlobal, S: Sink>(
-    rt: &R,
+fn check_text<S: Sink>(
+    alloc: Global,
     text: &str,
     base: Option<&str>,
     extent: Extent,
     profile: Profile,
     out: &mut S,
-) -> End
+) -> Done
     requires { S.failed out.old < 2 ^ 64 - 1 }
-    ensures checked { HasChecked extent profile base.entry (chars text.now) result
+    ensures checked { HasChecked extent profile base.entry (chars text.now) result.end
         (stream (S.contents out.old) (S.failed out.old)) (stream (S.contents out.new) (S.failed out.new)) }
+    ensures kept { IsKeptAt extent profile base.entry (chars text.now) result.refused }
     ensures runs { RunsAgainst profile base.entry (chars text.now) }
 {
-    let alloc = rt.alloc();
-    match extent {
-        Extent::First => end_of_check(run_check(alloc, text, base, profile, out)),
-        Extent::All => end_of_check(run_faults(alloc, text, base, profile, out)),
+    match check_with_base(alloc, text, base, profile, extent, out) {
+        Ok(Checked::Valid) => Done::from(End::Valid),
+        Ok(Checked::Refused(text)) => Done {
+            end: End::Refused,
+            refused: Some(text),
+        },
+        Ok(Checked::BaseRefused(refusal)) => Done::from(End::BaseRefused(refusal)),
+        Err(fault) => Done::from(End::Fault(fault)),
     }
 }

@@ -8,6 +8,7 @@ ghost use Rattle.uv_cli.specs.Lint.{form_of, format_of, input_name, is_input, re
 ghost use Rattle.uv_cli.specs.Linted.{is_stopped, is_writable};
 ghost use Rattle.uv_cli.specs.Stream.{stream};
 
+use crate::colours::look_of;
 use crate::ends::End;
 use crate::fault::CliFault;
 use crate::linted::Linted;
@@ -34,10 +35,10 @@ const NONE_COUNTED: LintCounts = LintCounts {
     refused: 0,
 };
 
-/// Reports on the lines of the job's files, in their order: in the format with the name, or in that of compilers, and
-/// alone or against the base, which is resolved by itself, before anything is read. Columns count what the unit says,
-/// or else what the format prefers. The base, the name and the unit are the texts that the job has. The input is read
-/// for each file named `-`.
+/// Reports on the lines of the job's files, in their order: in the named format, or otherwise as compilers do, and
+/// alone or against the base, which is resolved by itself, before anything is read. It has colours if they are always
+/// asked for. Columns count what the unit says, or by default what the format prefers. The base, the name and the unit
+/// are the texts that the job has. The input is read for each file named `-`.
 ///
 /// A file that can't be opened or read to its end is reported on standard error by its name, and the lint goes on with
 /// the next file; if it is the input, the end says so. Any other fault stops the lint; the end of the report is still
@@ -73,7 +74,7 @@ pub(crate) fn lint_files<R: Files + Eprint + AllocGlobal, I: Source, S: Sink>(
     }
 }
 
-/// The format with a name, or that of compilers if none is named.
+/// The format with a name, or the format of compilers if none is named.
 pub(crate) fn format_of(name: Option<&str>) -> Option<Format>
     ensures { result ≡ format_of name.entry }
 {
@@ -125,6 +126,7 @@ fn lint_against<R: Files + Eprint + AllocGlobal, I: Source, S: Sink>(
         profile: job.profile,
         extent: job.extent,
         format,
+        look: look_of(job.colours),
         columns,
         form: form_of(job.located),
     };

@@ -1,7 +1,7 @@
 //! How a lint of files has ended.
 ghost use Rattle.std.specs.Prelude.{◌≡◌, IfOk, string_bytes};
 ghost use Rattle.uv_cli.specs.Linted as spec;
-ghost use Rattle.uv_cli.specs.Linted.{completion_of, counts_text, is_writable, lint_status, linted_text};
+ghost use Rattle.uv_cli.specs.Linted.{completion_of, counts_text, is_writable, lines_text, lint_status, linted_text, unread_text};
 
 use crate::fault::stopped_line;
 use std::alloc::{AllocError, Global};
@@ -14,8 +14,8 @@ use uv_report::Completion;
 pub struct Linted {
     /// How many lines of all files were checked, and in how many something was found. Each is at most 2^64 - 1.
     pub counts: LintCounts,
-    /// Whether a file couldn't be opened, or couldn't be read to its end.
-    pub is_unread: bool,
+    /// How many files couldn't be opened, or couldn't be read to their end, at most 2^64 - 1.
+    pub unread: u64,
     /// Whether the standard input is among these.
     pub is_input_unread: bool,
     /// Whether a line was refused in a file that has the name of a document.
@@ -36,7 +36,7 @@ impl Linted {
                 lines: 0,
                 refused: 0,
             },
-            is_unread: false,
+            unread: 0,
             is_input_unread: false,
             is_document_refused: false,
             stopped: None,
@@ -73,7 +73,7 @@ impl Linted {
                 lines: self.counts.lines.saturating_add(counts.lines),
                 refused: self.counts.refused.saturating_add(counts.refused),
             },
-            is_unread: self.is_unread,
+            unread: self.unread,
             is_input_unread: self.is_input_unread,
             is_document_refused: is_refused || self.is_document_refused,
             stopped: self.stopped,
@@ -88,7 +88,7 @@ impl Linted {
     {
         Linted {
             counts: self.counts,
-            is_unread: true,
+            unread: self.unread.saturating_add(1),
             is_input_unread: is_input || self.is_input_unread,
             is_document_refused: self.is_document_refused,
             stopped: self.stopped,
@@ -102,7 +102,7 @@ impl Linted {
     {
         Linted {
             counts: self.counts,
-            is_unread: self.is_unread,
+            unread: self.unread,
             is_input_unread: self.is_input_unread,
             is_document_refused: self.is_document_refused,
             stopped: Some(fault),
@@ -137,7 +137,7 @@ impl Linted {
     {
         if self.is_stopped() {
             Completion::Stopped
-        } else if self.is_unread {
+        } else if self.unread != 0 {
             Completion::Unread
         } else {
             Completion::Whole
@@ -151,7 +151,7 @@ impl Linted {
     {
         if self.is_stopped() {
             3
-        } else if self.is_unread {
+        } else if self.unread != 0 {
             2
         } else if self.is_clean() {
             0
@@ -160,26 +160,47 @@ impl Linted {
         }
     }
 
-    /// What is said on standard error at the end: the counts, if they are wanted, and what stopped the lint.
+    /// The message on standard error at the end: the counts, if they are wanted, and what stopped the lint.
     pub(crate) fn error_lines(self, alloc: Global) -> Result<String, AllocError>
         ensures { IfOk result (λ lines. string_bytes lines ≡ linted_text self) }
     {
         let mut lines = String::new(alloc);
         if !self.is_quiet {
-            lines.push_str(counts_line(alloc, self.counts)?.as_str())?;
+            lines.push_str(counts_line(alloc, self.counts, self.unread)?.as_str())?;
         }
         lines.push_str(stopped_line(self.stopped))?;
         Ok(lines)
     }
 }
 
-// The line of counts.
-#[tactic(auto, unfolding(crate::specs::Linted::counts_text))]
-fn counts_line(alloc: Global, counts: LintCounts) -> Result<String, AllocError>
-    ensures { IfOk result (λ line. string_bytes line ≡ counts_text counts) }
+// The line of counts, which says of how many files not all is counted.
+fn counts_line(alloc: Global, counts: LintCounts, unread: u64) -> Result<String, AllocError>
+    ensures { IfOk result (λ line. string_bytes line ≡ counts_text counts unread) }
+{
+    let mut line = lines_text(alloc, counts)?;
+    if unread != 0 {
+        line.push_str(unread_text(alloc, unread)?.as_str())?;
+    }
+    line.push_str("\n")?;
+    Ok(line)
+}
+
+// How many lines were checked, and in how many something was found.
+#[tactic(auto, unfolding(crate::specs::Linted::lines_text))]
+fn lines_text(alloc: Global, counts: LintCounts) -> Result<String, AllocError>
+    ensures { IfOk result (λ text. string_bytes text ≡ lines_text counts) }
 {
     let lines = counts.lines;
     let refused = counts.refused;
     let noun = if lines == 1 { "line" } else { "lines" };
-    format!(in alloc; "urlcheck: {lines} {noun}, {refused} refused\n")
+    format!(in alloc; "urlcheck: {lines} {noun}, {refused} refused")
+}
+
+// How many files weren't read.
+#[tactic(auto, unfolding(crate::specs::Linted::unread_text))]
+fn unread_text(alloc: Global, unread: u64) -> Result<String, AllocError>
+    ensures { IfOk result (λ text. string_bytes text ≡ unread_text unread) }
+{
+    let noun = if unread == 1 { "file" } else { "files" };
+    format!(in alloc; ", {unread} {noun} not read")
 }

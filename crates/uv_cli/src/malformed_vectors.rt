@@ -4,30 +4,58 @@ use std::alloc::{AllocError, Global};
 use std::fmt::InlineText;
 use uv_messages::messages::Message;
 use uv_messages::unread::name_of;
-use uv_vectors::{CaseFault, CasesEnd, JsonFault};
+use uv_vectors::{CaseFault, CasesEnd, JsonFault, MOST_BYTES};
 
 // How many bytes of a key are shown.
 const KEY_BYTES: usize = 80;
 
-/// What is said about a run over the file of vectors with this name: why none of its cases is checked, or nothing.
+// How many arrays and objects of JSON may be within one another.
+const MOST_DEEP: usize = 127;
+
+/// The message about a run over the file of vectors with this name and these bytes: why none of its cases is checked,
+/// or nothing.
 pub(crate) fn said_of_vectors(
     alloc: Global,
     file: &str,
+    bytes: &[u8],
     end: &CasesEnd,
 ) -> Result<Message, AllocError> {
-    match end {
-        CasesEnd::NotJson(fault) => {
-            Message::of(alloc, json_line(alloc, name_of(file), *fault)?.as_str())
-        }
+    let name = name_of(file);
+    let line = match end {
+        CasesEnd::NotJson(JsonFault::Unreadable(_)) if is_too_deep(bytes) => format!(in alloc;
+            "{name}: at most {MOST_DEEP} arrays and objects may be within one another"
+        )?,
+        CasesEnd::NotJson(fault) => json_line(alloc, name, *fault)?,
+        CasesEnd::NotArray => format!(in alloc; "{name}: it has to be an array of cases")?,
+        CasesEnd::TooLarge => format!(in alloc; "{name}: it may have at most {MOST_BYTES} bytes")?,
         CasesEnd::Malformed(number, fault) => {
             let reason = case_reason(alloc, fault)?;
-            Message::of(
-                alloc,
-                format!(in alloc; "vector {number}: {reason}")?.as_str(),
-            )
+            format!(in alloc; "vector {number}: {reason}")?
         }
-        _ => Ok(Message::nothing(alloc)),
+        CasesEnd::AllPass | CasesEnd::SomeFail => return Ok(Message::nothing(alloc)),
+    };
+    Message::of(alloc, line.as_str())
+}
+
+// Whether more arrays and objects of JSON are within one another than may be.
+fn is_too_deep(bytes: &[u8]) -> bool {
+    let mut depth = 0usize;
+    let mut is_text = false;
+    let mut is_escaped = false;
+    for byte in bytes {
+        match byte {
+            _ if is_escaped => is_escaped = false,
+            b'\\' => is_escaped = is_text,
+            b'"' => is_text = !is_text,
+            b'[' | b'{' if !is_text => depth = depth.saturating_add(1),
+            b']' | b'}' if !is_text => depth = depth.saturating_sub(1),
+            _ => {}
+        }
+        if depth > MOST_DEEP {
+            return true;
+        }
     }
+    false
 }
 
 // The line on a file that isn't JSON.
@@ -45,7 +73,9 @@ fn json_line(alloc: Global, name: &str, fault: JsonFault) -> Result<String, Allo
 // Why a value isn't a case.
 fn case_reason(alloc: Global, fault: &CaseFault) -> Result<String, AllocError> {
     let reason = match fault {
-        CaseFault::NoObject => "it is no object",
+        CaseFault::NoObject => {
+            "it has to be an object with \"input\" and \"text\", or \"input\", \"place\" and \"rule\""
+        }
         CaseFault::UnknownKey(key) => return key_reason(alloc, key.as_str()),
         CaseFault::Input => "\"input\" has to be a string",
         CaseFault::Base => "\"base\" has to be a string or null",
@@ -58,7 +88,7 @@ fn case_reason(alloc: Global, fault: &CaseFault) -> Result<String, AllocError> {
     reason.to_string(alloc)
 }
 
-// What is said about a key that no case has; only the first bytes of a long one are shown.
+// The message about a key that no case has; only the first bytes of a long one are shown.
 fn key_reason(alloc: Global, key: &str) -> Result<String, AllocError> {
     let shown = InlineText::<KEY_BYTES>::new().and_str(key, KEY_BYTES);
     let key = shown.as_str();

@@ -68,7 +68,7 @@ fn mend_against<S: Sink>(
     }
 }
 
-// What is said about a text against a record as base, and how it ends.
+// Prints the answer of `mend` about a text against a base record, and returns how the run ends.
 fn say_mending(
     alloc: Global,
     text: &str,

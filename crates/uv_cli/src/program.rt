@@ -2,42 +2,45 @@
 ghost use Rattle.std.specs.Prelude.{◌≡◌, ◌-◌, ◌^◌, ◌<◌, MatchResult, OnErr, false};
 ghost use Rattle.std.specs.IoError.{error_kind};
 ghost use Rattle.std.specs.Io.KnownBytes.{Keeps};
+ghost use Rattle.uv_arguments.specs.Requests.{reason_of};
 ghost use Rattle.uv_cli.specs.Calls.{is_closed_by};
 ghost use Rattle.uv_cli.specs.Ends.{status_of};
 ghost use Rattle.uv_cli.specs.Flushed.{ended_after, open_end};
+ghost use Rattle.uv_cli.specs.Jobs.{IsKeptOf};
 ghost use Rattle.uv_cli.specs.Program.{HasAnswered, HasEndedJob, HasFile, HasRun, HasRunOver, HasShown, IsStatus};
 ghost use Rattle.uv_cli.specs.Stream.{stream};
 
+use crate::check::RefusedText;
+use crate::colours::decided;
 use crate::ends::{
     End, end_after_output, end_without_file, end_without_job, fixed_line, numbered_line, status,
 };
 use crate::fault::CliFault;
-use crate::jobs::run_job;
-use crate::painted::{PaintedWriter, painted_format};
+use crate::jobs::{Done, run_job};
 use crate::said::{Seen, said_at_end};
 use crate::vector_file::{FileFault, read_vector_file};
 use crate::watched_streams::{WatchedReader, WatchedWriter};
 use std::alloc::AllocError;
 use std::fs::Files;
-use std::io;
 use std::io::{ErrorKind, Read, Write};
 use std::rt::Env;
+use std::{fs, io};
 use uv_arguments::arguments::{OwnArguments, refused, words_of};
-use uv_arguments::{Job, WordsFault, read_words};
+use uv_arguments::{Job, Reason, WordsFault, read_words};
 use uv_io::{FromReader, Source, ToWriter};
 use uv_messages::messages::{Message, say};
 use uv_messages::refused_words::refused_words;
 use uv_messages::unread::{unread, unwritten};
 
-// What is said about arguments that `clap` takes, but that ask for nothing.
+// The message about arguments that are taken one by one, but that ask for nothing.
 const NO_JOB: &str = "--wide is short for --profile wide: only one of them may be given";
 
-/// How the program ends, and whether whoever read its output has gone: then the end isn't reported.
+/// How the program ends, and whether the reader of its output has gone: then the end isn't reported.
 #[derive(Clone, Copy)]
 pub struct Ended {
     /// The end.
     pub end: End,
-    /// Whether whoever read the output has gone.
+    /// Whether the reader of the output has gone.
     pub is_closed: bool,
 }
 
@@ -74,7 +77,10 @@ fn outcome<R: Env + Files + Input + Print + Eprint + AllocGlobal>(
 ) -> Result<Ended, AllocError> {
     let words = words_of(rt.alloc(), &OwnArguments::new(rt))?;
     let texts: Vec<&str> = words.iter().map(|word| word.as_str()).collect(rt.alloc())?;
-    let asked = read_words(rt.alloc(), texts.as_slice());
+    let mut asked = read_words(rt.alloc(), texts.as_slice());
+    if let Ok(Some(Job::Lint(lint))) = &mut asked {
+        lint.colours = decided(rt, lint.colours, terminals.output);
+    }
     let job = match &asked {
         Ok(job) => job.as_ref(),
         Err(_) => None,
@@ -119,7 +125,7 @@ fn open(end: End) -> Ended
     }
 }
 
-// Does a job over the runtime's streams, in colours if it asks for some.
+// Does a job over the runtime's streams.
 fn done<R: Env + Files + Input + Print + Eprint + AllocGlobal>(
     rt: &R,
     job: &Job,
@@ -131,17 +137,19 @@ fn done<R: Env + Files + Input + Print + Eprint + AllocGlobal>(
         Ok(file) => file,
         Err(fault) => return open(end_without_file(fault)),
     };
-    let out = io::writer(rt);
-    match painted_format(rt, job, terminals.output) {
-        Some(format) => {
-            let painted = PaintedWriter::new(rt.alloc(), out, format);
-            done_into(rt, job, file.as_slice(), rt.reader(), painted, terminals)
-        }
-        None => done_into(rt, job, file.as_slice(), rt.reader(), out, terminals),
-    }
+    done_into(
+        rt,
+        job,
+        file.as_slice(),
+        rt.reader(),
+        io::writer(rt),
+        terminals,
+    )
 }
 
-// Does a job over a reader and a writer, and prints what is to be said about its end.
+// Does a job over a reader and a writer, and prints what is to be said about its end. (The two hold their buffers, which
+// a call would copy.)
+#[inline(always)]
 fn done_into<R: Files + Eprint + AllocGlobal, I: Read + Drop, W: Write + Drop>(
     rt: &R,
     job: &Job,
@@ -153,7 +161,7 @@ fn done_into<R: Files + Eprint + AllocGlobal, I: Read + Drop, W: Write + Drop>(
     ensures { HasRunOver job.now file.now (I.remaining reader) (W.contents out) result }
 {
     let mut input = FromReader::new(WatchedReader::new(reader));
-    let (ended, out) = done_over(rt, job, file, &mut input, out);
+    let (ended, refused, out) = done_over(rt, job, file, &mut input, out);
     if !ended.is_closed {
         let reader = input.into_reader();
         let seen = Seen {
@@ -163,30 +171,39 @@ fn done_into<R: Files + Eprint + AllocGlobal, I: Read + Drop, W: Write + Drop>(
         };
         say(
             rt,
-            said_at_end(rt.alloc(), job, ended.end, seen, terminals.errors),
+            said_at_end(
+                rt.alloc(),
+                job,
+                ended.end,
+                refused.as_ref(),
+                seen,
+                terminals.errors,
+            ),
         );
     }
     ended
 }
 
-// Does a job over an input and a writer, which is flushed after the last write, and given back.
+// Does a job over an input and a writer, which is flushed after the last write, and given back, with what is kept of a
+// refused text.
 fn done_over<R: Files + Eprint + AllocGlobal, I: Source, W: Write + Drop>(
     rt: &R,
     job: &Job,
     file: &[u8],
     input: &mut I,
     writer: W,
-) -> (Ended, WatchedWriter<W>)
+) -> (Ended, Option<RefusedText>, WatchedWriter<W>)
     requires { I.failed input.old < 2 ^ 64 - 1 }
-    ensures { HasRun job.now file.now result.0
+    ensures run { HasRun job.now file.now result.0
         (stream (I.remaining input.old) (I.failed input.old)) (stream (I.remaining input.new) (I.failed input.new))
-        (W.contents writer) (W.contents result.1.writer) result.1.is_flushed result.1.fault }
+        (W.contents writer) (W.contents result.2.writer) result.2.is_flushed result.2.fault }
+    ensures kept { IsKeptOf job.now result.1 }
 {
     let mut out = ToWriter::new(WatchedWriter::new(writer));
-    let end = run_job(rt, job, file, input, &mut out);
+    let Done { end, refused } = run_job(rt, job, file, input, &mut out);
     let mut out = out.into_writer();
     let ended = finished(end, &mut out);
-    (ended, out)
+    (ended, refused, out)
 }
 
 // The bytes of the job's file, or none if it has no file. If a file isn't read, the reason is reported.
@@ -215,7 +232,7 @@ pub fn finished<W: Write>(end: End, out: &mut WatchedWriter<W>) -> Ended
     }
 }
 
-// Whether whoever read the output has gone, by the kind of the last error.
+// Whether the reader of the output has gone, by the kind of the last error.
 fn is_closed_by(fault: Option<ErrorKind>) -> bool
     ensures { result ≡ is_closed_by fault }
 {
@@ -223,22 +240,35 @@ fn is_closed_by(fault: Option<ErrorKind>) -> bool
 }
 
 // Shows what the reader of these arguments says: help on standard output, a refusal on standard error.
-fn shown<R: Print + Eprint + AllocGlobal>(rt: &R, words: &[&str], fault: &WordsFault) -> Ended
-    ensures { HasShown fault.now result }
+fn shown<R: Files + Print + Eprint + AllocGlobal>(
+    rt: &R,
+    words: &[&str],
+    fault: &WordsFault,
+) -> Ended
+    ensures { HasShown (reason_of fault.now) result }
 {
-    let end = end_without_job(fault);
-    let WordsFault::Words(error) = fault else {
-        return open(end);
-    };
-    if fault.asks_to_show() {
-        return printed(rt, end, error.print(rt));
+    let reason = fault.reason();
+    let end = end_without_job(reason);
+    match reason {
+        Reason::Memory => {}
+        Reason::Shown => return printed(rt, end, fault.print(rt)),
+        Reason::NoWords => {
+            let _ = fault.print(rt);
+        }
+        _ => {
+            let is_folder = reason == Reason::NoCommand && names_folder(rt, words);
+            say(rt, refused_words(rt.alloc(), words, fault, is_folder));
+        }
     }
-    if error.kind() == clap::error::ErrorKind::DisplayHelpOnMissingArgumentOrSubcommand {
-        let _ = error.print(rt);
-        return open(end);
-    }
-    say(rt, refused_words(rt.alloc(), words, error));
     open(end)
+}
+
+// Whether the first word after the program's name is the name of a folder.
+fn names_folder<R: Files>(rt: &R, words: &[&str]) -> bool {
+    match words {
+        [_, word, ..] => matches!(fs::metadata(rt, *word), Ok(data) if data.is_dir()),
+        _ => false,
+    }
 }
 
 // The end once help is printed. If that failed, it is the end of a failed write.
@@ -276,8 +306,8 @@ fn end_with<R: Eprint + AllocGlobal>(rt: &R, end: End) -> u8
     }
 }
 
-// Says the last line, or that there was no memory for it, and gives the exit status: that of the end, or that of no
-// memory.
+// Says the last line, or that there was no memory for it, and gives the exit status, which follows from the end or says
+// that there was no memory.
 fn said<R: Eprint>(rt: &R, end: End, line: Result<String, AllocError>) -> u8
     ensures { MatchResult line (λ text. result ≡ status_of end)
         (λ fault. result ≡ status_of (End.Fault CliFault.Memory)) }

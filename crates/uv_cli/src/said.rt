@@ -1,8 +1,11 @@
-//! What is said on standard error before the last line: about how a job has ended, and about a file that a lint has
+//! The message on standard error before the last line: about how a job has ended, and about a file that a lint has
 //! read.
-ghost use Rattle.std.specs.Prelude.{◌≡◌, IfOk, IsOk, [], false, true};
+ghost use Rattle.std.specs.Prelude.{◌≡◌, IfOk, IsOk, [], chars, false, option_copied, true};
+ghost use Rattle.uv_grammar.specs.Verdict.{IsRefused};
+ghost use Rattle.uv_cli.specs.Jobs.{IsKeptOf};
 ghost use Rattle.uv_cli.specs.Said.{ends_silently};
 
+use crate::check::RefusedText;
 use crate::ends::{End, status};
 use crate::fault::CliFault;
 use crate::filtered::Filtered;
@@ -10,11 +13,11 @@ use crate::linted::Linted;
 use std::alloc::{AllocError, Global};
 use std::io::ErrorKind;
 use uv_arguments::Job;
-use uv_grammar::{faults, wider_profile};
+use uv_grammar::wider_profile;
 use uv_lines::StopFault;
 use uv_links::LinkFault;
 use uv_lint::LintCounts;
-use uv_mend::{Mending, mend};
+use uv_mend::{Mending, mend_refused};
 use uv_messages::hints::{Hint, file_hint, push_text_hint};
 use uv_messages::list_contents::{Content, content_line};
 use uv_messages::messages::Message;
@@ -25,7 +28,6 @@ use uv_messages::unknown::{
 use uv_messages::unread::{unread, unwritten, unwritten_line};
 use uv_model::{Extent, Profile, Record, Refusal, Rule};
 use uv_report::{Columns, Format};
-use uv_resolve::{ResolveFault, resolve_base};
 use uv_sentences::{
     Checked, Escapes, LineViolation, SeenText, Wording, escaped, is_offered, message,
 };
@@ -54,17 +56,17 @@ const COLUMNS: [Columns; 4] = [
 // What standard input is called.
 const INPUT: &str = "standard input";
 
-// What is said if standard input has a name and isn't read.
+// The message if standard input has a name and isn't read.
 const OF_INPUT: &str = "--stdin-name is the name of standard input: one of the FILEs has to be -";
 
-// What is said if standard input has an empty name.
+// The message if standard input has an empty name.
 const OF_NO_NAME: &str = "--stdin-name is the name of standard input, and may not be empty";
 
-// What is said if one text is to be mended by options for lines.
+// The message if one text is to be mended by options for lines.
 const OF_LINES: &str =
     "--only, --all-mended and --quiet are for the lines of standard input, not for a TEXT";
 
-// What is said if files are to be mended in their place, and none is named.
+// The message if files are to be mended in their place, and none is named.
 const OF_NO_FILES: &str =
     "--in-place mends the lines of files: name one, or leave it out for standard input";
 
@@ -79,28 +81,38 @@ pub(crate) struct Seen {
     pub(crate) content: Option<Content>,
 }
 
-/// What is said about a job that ended like this: about a name that doesn't exist, a stream that failed, a base that is
+/// The message about a job that ended like this: about a name that doesn't exist, a stream that failed, a base that is
 /// refused, and what was likely meant. Standard error may go to a terminal, where people read it.
 pub(crate) fn said_at_end(
     alloc: Global,
     job: &Job,
     end: End,
+    refused: Option<&RefusedText>,
     seen: Seen,
     is_terminal: bool,
 ) -> Result<Message, AllocError>
+    requires { IsKeptOf job.now (option_copied refused) }
     ensures silent { is_terminal ≡ false → ends_silently job.now end ≡ true
         → IsOk result × IfOk result (λ said. said ≡ []) }
 {
     if !is_terminal && ends_silently(job, end) {
         return Ok(Message::nothing(alloc));
     }
-    said_to_people(alloc, job, end, seen)
+    said_to_people(alloc, job, end, refused, seen)
 }
 
-// What is said about a job that ended like this, if people read it, or if the job doesn't end silently.
-fn said_to_people(alloc: Global, job: &Job, end: End, seen: Seen) -> Result<Message, AllocError> {
+// The message about a job that ended like this, if people read it, or if the job doesn't end silently.
+fn said_to_people(
+    alloc: Global,
+    job: &Job,
+    end: End,
+    refused: Option<&RefusedText>,
+    seen: Seen,
+) -> Result<Message, AllocError>
+    requires { IsKeptOf job.now (option_copied refused) }
+{
     match end {
-        End::Refused => said_of_refused(alloc, job, seen.content),
+        End::Refused => said_of_refused(alloc, job, refused, seen.content),
         End::BaseRefused(refusal) => said_of_base(alloc, job, refusal),
         End::Linted(linted) => said_of_linted(alloc, linted, seen),
         End::Filtered(filtered) => said_of_filtered(alloc, filtered, seen),
@@ -112,7 +124,7 @@ fn said_to_people(alloc: Global, job: &Job, end: End, seen: Seen) -> Result<Mess
     }
 }
 
-// Whether nothing is said about a job that ended like this unless people read it. The output of these commands says
+// Whether a job that ended like this gets no last line, unless people read it. The output of these commands says
 // everything, and a script may take any text on standard error for a failure.
 fn ends_silently(job: &Job, end: End) -> bool
     ensures { result ≡ ends_silently job.now end }
@@ -123,7 +135,7 @@ fn ends_silently(job: &Job, end: End) -> bool
     }
 }
 
-// What is said about a job that names something that doesn't exist, or asks for what doesn't go together; otherwise
+// The message about a job that names something that doesn't exist, or asks for what doesn't go together; otherwise
 // nothing.
 fn said_of_names(alloc: Global, job: &Job, end: End) -> Result<Message, AllocError> {
     match (job, end) {
@@ -149,19 +161,19 @@ fn said_of_names(alloc: Global, job: &Job, end: End) -> Result<Message, AllocErr
     }
 }
 
-// What is said about a name that no format has.
+// The message about a name that no format has.
 fn of_format(alloc: Global, name: &str) -> Result<Message, AllocError> {
     let names: Vec<&str> = FORMATS.iter().map(|format| format.name()).collect(alloc)?;
     unknown_format(alloc, names.as_slice(), name)
 }
 
-// What is said about a name that no unit of columns has.
+// The message about a name that no unit of columns has.
 fn of_unit(alloc: Global, name: &str) -> Result<Message, AllocError> {
     let names: Vec<&str> = COLUMNS.iter().map(|columns| columns.name()).collect(alloc)?;
     unknown_unit(alloc, names.as_slice(), name)
 }
 
-// What is said about a unit of columns that the format doesn't take.
+// The message about a unit of columns that the format doesn't take.
 fn of_refused_unit(alloc: Global, format: Format, name: &str) -> Result<Message, AllocError> {
     let mut taken: Vec<&str> = Vec::new(alloc);
     for columns in &COLUMNS {
@@ -177,13 +189,16 @@ fn or_empty(name: &Option<String>) -> &str {
     name.as_deref().unwrap_or("")
 }
 
-// What is said if a text is refused, or a line of a list of links: what is wrong with a text that is checked, and what
+// The message if a text is refused, or a line of a list of links: what is wrong with a text that is checked, and what
 // was likely meant instead.
 fn said_of_refused(
     alloc: Global,
     job: &Job,
+    refused: Option<&RefusedText>,
     content: Option<Content>,
-) -> Result<Message, AllocError> {
+) -> Result<Message, AllocError>
+    requires { IsKeptOf job.now (option_copied refused) }
+{
     let mut said = Message::nothing(alloc);
     match job {
         Job::Check {
@@ -193,7 +208,9 @@ fn said_of_refused(
             profile,
         } => {
             let (text, base) = (text.as_str(), base.as_deref());
-            push_violations(alloc, &mut said, text, base, *extent, *profile)?;
+            if let Some(refused) = refused {
+                push_refused(alloc, &mut said, text, refused, *extent, *profile)?;
+            }
             let (of_input, of_list) = (Hint::InputOfCheck, Hint::ListOfCheck);
             push_text_hint(alloc, &mut said, text, base.is_some(), of_input, of_list)?;
         }
@@ -215,68 +232,80 @@ fn said_of_refused(
 
 // Pushes what is wrong with a refused text, in a sentence for each violation that was printed, and what to write in
 // place of the text, if that is offered.
-fn push_violations(
+fn push_refused(
     alloc: Global,
     said: &mut Message,
     text: &str,
-    base: Option<&str>,
+    refused: &RefusedText,
     extent: Extent,
     profile: Profile,
-) -> Result<(), AllocError> {
-    let base = match resolve_base(alloc, base, profile) {
-        Ok(base) => base,
-        Err(ResolveFault::Refused(_)) => return Ok(()),
-        Err(ResolveFault::Memory(error)) => return Err(error),
+) -> Result<(), AllocError>
+    requires { IsRefused profile refused.now.base (chars text.now) refused.now.found.refusal }
+{
+    let base = refused.base.as_ref();
+    let first = [refused.found.refusal];
+    let found = match extent {
+        Extent::First => &first,
+        Extent::All => refused.found.faults.as_slice(),
     };
-    let checked = checked_by(alloc, text, base.as_ref(), profile)?;
     let mut seen = SeenText::of_several(text);
-    for refusal in &faults(alloc, text, base.as_ref(), profile)? {
-        let (region, place) = (region_of(refusal.rule), refusal.place);
-        seen.go_to(place);
-        let sentence = message(alloc, checked, &seen, LineViolation::Refused(*refusal))?;
-        let sentence = sentence.as_str();
-        said.push(
-            alloc,
-            format!(in alloc; "{region}at place {place}: {sentence}")?.as_str(),
-        )?;
-        if extent == Extent::First {
-            break;
-        }
+    for refusal in found {
+        seen.go_to(refusal.place);
+        let sentence = sentence_on(alloc, &seen, base, profile, *refusal)?;
+        push_sentence(alloc, said, *refusal, sentence.as_str())?;
     }
-    push_offered(alloc, said, &seen, base.as_ref(), profile)
+    let mending = mend_refused(alloc, text, base, profile, refused.found.refusal)?;
+    push_offered(alloc, said, &seen, &mending)
 }
 
-// What comes before the place of a violation: a host is refused at its first code point, whichever one is wrong.
-fn region_of(rule: Rule) -> &'static str {
-    match rule {
-        Rule::HostDomain | Rule::HostNumber | Rule::HostIpv6 => "in the host ",
-        _ => "",
-    }
-}
-
-// How a text was checked, in the words of the sentence on what is wrong with it.
-fn checked_by(
+// The sentence on a violation of a text, which is seen so, against a record as base.
+fn sentence_on(
     alloc: Global,
-    text: &str,
+    seen: &SeenText<'_>,
     base: Option<&Record>,
     profile: Profile,
-) -> Result<Checked, AllocError> {
-    Ok(Checked {
+    refusal: Refusal,
+) -> Result<String, AllocError> {
+    let violation = LineViolation::Refused(refusal);
+    let accepted_by = if violation.is_by_choice() {
+        wider_profile(alloc, seen.as_str(), base, profile)?
+    } else {
+        None
+    };
+    let checked = Checked {
         profile,
-        accepted_by: wider_profile(alloc, text, base, profile)?,
+        accepted_by,
         wording: Wording::Options,
-    })
+    };
+    message(alloc, checked, seen, violation)
 }
 
-// Pushes what to write in place of a text, if that is offered.
+// Pushes a sentence on a violation, with its place. A host is refused at its first code point, whichever one is wrong.
+fn push_sentence(
+    alloc: Global,
+    said: &mut Message,
+    refusal: Refusal,
+    sentence: &str,
+) -> Result<(), AllocError> {
+    let place = refusal.place;
+    let region = match refusal.rule {
+        Rule::HostDomain | Rule::HostNumber | Rule::HostIpv6 => "in the host ",
+        _ => "",
+    };
+    said.push(
+        alloc,
+        format!(in alloc; "{region}at place {place}: {sentence}")?.as_str(),
+    )
+}
+
+// Pushes what to write in place of a text, which is seen so, if that is offered.
 fn push_offered(
     alloc: Global,
     said: &mut Message,
     seen: &SeenText<'_>,
-    base: Option<&Record>,
-    profile: Profile,
+    mending: &Mending,
 ) -> Result<(), AllocError> {
-    match mend(alloc, seen.as_str(), base, profile)? {
+    match mending {
         Mending::Mended { text, .. } if is_offered(seen, text.as_str()) => {
             let text = escaped(alloc, text.as_str(), Escapes::Copied)?;
             let text = text.as_str();
@@ -294,9 +323,7 @@ fn said_of_base(alloc: Global, job: &Job, refusal: Refusal) -> Result<Message, A
     match refusal.rule {
         Rule::NoScheme => line.push_str("it has no scheme")?,
         _ => {
-            let checked = checked_by(alloc, base, None, profile)?;
-            let violation = LineViolation::Refused(refusal);
-            let sentence = message(alloc, checked, &SeenText::new(base), violation)?;
+            let sentence = sentence_on(alloc, &SeenText::new(base), None, profile, refusal)?;
             line.push_str(sentence.as_str())?;
         }
     }
@@ -316,7 +343,7 @@ fn base_of(job: &Job) -> (&str, Profile) {
     (base.as_deref().unwrap_or(""), profile)
 }
 
-// What is said about a lint: that standard input wasn't read, or the report not written, and what its files look like.
+// The message about a lint: that standard input wasn't read, or the report not written, and what its files look like.
 fn said_of_linted(alloc: Global, linted: Linted, seen: Seen) -> Result<Message, AllocError> {
     let mut said = if linted.is_input_unread {
         unread(alloc, INPUT, seen.read)?
@@ -335,7 +362,7 @@ fn said_of_linted(alloc: Global, linted: Linted, seen: Seen) -> Result<Message, 
     Ok(said)
 }
 
-// What is said about a filter: that a stream failed, and what its input looks like.
+// The message about a filter: that a stream failed, and what its input looks like.
 fn said_of_filtered(alloc: Global, filtered: Filtered, seen: Seen) -> Result<Message, AllocError> {
     let mut said = match filtered.stopped {
         Some(StopFault::Read) => unread(alloc, INPUT, seen.read)?,
@@ -348,7 +375,7 @@ fn said_of_filtered(alloc: Global, filtered: Filtered, seen: Seen) -> Result<Mes
     Ok(said)
 }
 
-/// What is said about a file with this name that a lint has read: that it wasn't read to its end; and if a line of it
+/// The message about a file with this name that a lint has read: that it wasn't read to its end; and if a line of it
 /// is refused, what the file looks like, unless it looks like a list of links.
 pub(crate) fn said_of_file(
     alloc: Global,
@@ -367,7 +394,7 @@ pub(crate) fn said_of_file(
     Ok(said)
 }
 
-/// What is said about a file that a lint can't read, by the kind of the error, if it is known: why, and a hint.
+/// The message about a file that a lint can't read, by the kind of the error, if it is known: why, and a hint.
 pub(crate) fn said_of_unread(
     alloc: Global,
     file: &str,

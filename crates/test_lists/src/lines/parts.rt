@@ -1,4 +1,4 @@
-//! What is said about a list, and about one line, is written in parts.
+//! The report on a list, and on one line, is written in parts.
 ghost use Rattle.std.specs.Prelude.{◌≡◌, ℕ, ◌+◌, ◌-◌, ◌^◌, ◌<◌, ◌⊎◌, ◌++◌, List, None, [], IfErr, OnOk};
 ghost use Rattle.uv_lines.specs.Fault.{failed_within};
 ghost use Rattle.uv_lines.specs.Waiting.{LeavesParts, Passes};
@@ -196,8 +196,8 @@ fn leaves(
     (writer.most, writer.failures)
 }
 
-// What is said about 2,000 lines of one piece is 2,000,000 bytes, and so is what is said about one line, even if no LF
-// ends it. It is written in order whenever 262,144 bytes or more wait, which are the 263,000 of 263 parts.
+// The reports on 2,000 lines of one piece are 2,000,000 bytes, and so is the report on one line, even if no LF ends it.
+// It is written in order whenever 262,144 bytes or more wait, which are the 263,000 of 263 parts.
 #[test]
 fn writes_what_is_much_in_the_midst_of_a_piece_and_of_a_line(rt: HostRuntime) -> Result<(), Fail> {
     let whole = framed(rt.alloc(), 2_000)?;

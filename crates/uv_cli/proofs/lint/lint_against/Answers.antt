@@ -1,6 +1,6 @@
 -- The report on the files, with its beginning and its end.
 use Rattle.std.proofs.Common.{◌∙◌, ap, map, string_bytes}
-use Rattle.uv_cli.specs.Lint.{form_of, input_name}
+use Rattle.uv_cli.specs.Lint.{form_of, input_name, look_of}
 use Rattle.uv_cli.proofs.LintLemmas.{begins_with, lints_files}
 use Rattle.uv_cli.proofs.lint.lint_against.Goals as goal
 
@@ -25,10 +25,11 @@ returns g c = record {
         profile = c.args.job.now.profile;
         extent = c.args.job.now.extent;
         format = c.args.format;
+        look = look_of c.args.job.now.colours;
         columns = c.args.columns;
         form = form_of c.args.job.now.located;
       })
       _ _ _ _ _ _ _ _ (ap (map string_bytes) c.as_slice.ensures.value)
-      (rw c.form_of.ensures at (rw c.input_name-name.ensures at c.lint_each-linted.ensures.all));
+      (rw (c.look_of.ensures, c.form_of.ensures) at (rw c.input_name-name.ensures at c.lint_each-linted.ensures.all));
   ends = rw (← c.completion.ensures, ← c.end_of.ensures) c.write_piece.ensures;
 }

@@ -1,4 +1,4 @@
--- What is said against the record of the base's text.
+-- The answer against the record of the base's text.
 use Rattle.std.proofs.Common.{option_copied, subst, sym}
 use Rattle.std.proofs.lemmas.Result.{IfOk-weaker}
 use Rattle.uv_resolve.specs.Base.{IsBase}
