@@ -5,7 +5,6 @@ import io
 import os
 import re
 import sys
-from typing import Callable, Optional
 
 REASONS = {
     errno.ENOENT: "there is no such file",
@@ -25,8 +24,8 @@ REASONS = {
 """Why a file can't be read or written, as ``urlcheck`` says it; any other reason is said in the system's words."""
 
 
-_HIDDEN = re.compile("[\x00-\x08\x0a-\x1f\x7f-\x9f\u061c\u200e\u200f\u2028-\u202e\u2066-\u2069]")
-"""The controls but the tab, and what turns the direction of a text or ends its line."""
+_DRIVES = re.compile("[\x00-\x08\x0b-\x1f\x7f-\x9f\u061c\u200e\u200f\u2028-\u202e\u2066-\u2069]")
+"""What drives a terminal: controls but the tab and the line feed, and what ends a line or turns a text's direction."""
 
 
 class Unwritable(Exception):
@@ -41,7 +40,7 @@ class Unwritable(Exception):
 
 def named(name: str) -> str:
     """A name as lines show it: U+FFFD stands for a control but the tab, and for what turns its direction."""
-    return _HIDDEN.sub("\ufffd", name)
+    return _DRIVES.sub("\ufffd", name).replace("\n", "\ufffd")
 
 
 _MOST_SHOWN = 120
@@ -102,22 +101,17 @@ def stop(line: str) -> int:
 
 _OUTPUT = "standard output"
 
-_DRIVES = re.compile("[\x00-\x08\x0b-\x1f\x7f-\x9f\u061c\u200e\u200f\u2028-\u202e\u2066-\u2069]")
-"""What drives a terminal: controls but the tab and the line feed, and what ends a line or turns a text's direction."""
 
-
-def write(lines: bytes, paint: Optional[Callable[[str], str]] = None) -> None:
-    """Writes whole lines, as they are, or with colours; to a terminal what drives it is shown as U+FFFD. Raises
-    ``Unwritable``."""
+def write(lines: bytes, is_coloured: bool = False) -> None:
+    """Writes whole lines, as they are; to a terminal what drives it is shown as U+FFFD, but for colours, in which the
+    library has written nothing else that does. Raises ``Unwritable``."""
     if not lines:
         return
     # (there is none if it was closed before the start)
     if sys.stdout is None:
         raise Unwritable.by(_OUTPUT, closed())
-    if sys.stdout.isatty() or paint is not None:
-        shown = lines.decode("utf-8", "surrogateescape")
-        shown = _DRIVES.sub("\ufffd", shown) if sys.stdout.isatty() else shown
-        lines = (paint(shown) if paint else shown).encode("utf-8", "surrogateescape")
+    if sys.stdout.isatty() and not is_coloured:
+        lines = _DRIVES.sub("\ufffd", lines.decode("utf-8", "surrogateescape")).encode("utf-8", "surrogateescape")
     try:
         sys.stdout.buffer.write(lines)
         if sys.stdout.isatty():

@@ -11,20 +11,18 @@ import stat
 import sys
 from typing import Dict, Iterable, Iterator, List, Optional, Tuple
 
-from ._documents.arguments import Command, Settings, asked, with_format
-from ._documents.configuration import Misconfigured, Project
+from ._documents.arguments import Command, asked, with_format
+from ._documents.configuration import Configuration, Misconfigured, Project
 from ._documents.document import Document
-from ._documents.effective import Effective, effective
 from ._documents.folders import Documents, Entry
 from ._documents.limits import limit_memory
-from ._documents.progress import Progress
 from ._documents.run import Counts, Run
-from ._documents.screen import Paint, Screen
+from ._documents.screen import Screen
 from ._fixes.writing import Output, held_of
 from ._reports import baseline
 from ._reports.checker import Checker
-from ._reports.colours import COLOURED, are_wanted, coloured
-from ._reports.finding import Report
+from ._reports.colours import COLOURED, are_wanted
+from ._reports.finding import Report, Writer
 from ._reports.report import shows_mended
 from ._streams import Unwritable, as_utf8, flush, reason_of, stop, tell, write_nowhere
 
@@ -46,21 +44,22 @@ def _run(command: Command) -> int:
     """Runs the program on what is asked for: first it finds the documents, then what each is checked by, and only then
     is anything read, written or reported. Raises ``Misconfigured``, ``Refusal`` and ``Unwritable``."""
     project = Project(command.is_configured)
-    settings = with_format(command, project.configuration_of(_current_folder()))
+    command = with_format(command, project.configuration_of(_current_folder()))
+    # (a difference and counts are in place of a report)
+    is_reported = not command.has_statistics and not (command.fixing and command.fixing.is_shown)
+    command = command._replace(is_coloured=is_reported and _is_coloured(command))
     found = Documents(project, command.given.excluded, command.is_by_git)
     entries = [it for name in command.files for it in found.of(name, command.stdin_name)]
-    documents = list(_documents(command, settings, _unwritten(command, project, entries)))
+    documents = list(_documents(command, _unwritten(command, project, entries)))
     output, known = _outputs(command)
-    progress = Progress(len(documents), command.is_quiet)
-    screen = Screen(output, _paint(command, settings.format), progress)
-    # (a difference and counts are in place of a report)
-    is_reported = not command.has_statistics and not (settings.fixing and settings.fixing.is_shown)
-    with Report(settings.format, settings.unit, screen.write if is_reported else _leave) as report:
-        seen = Run(command, settings, report, screen)
+    screen = Screen(output, command.is_coloured, len(documents), command.is_quiet)
+    writer: Writer = screen.write if is_reported else lambda _: None
+    with Report(command.format, command.is_coloured, command.unit, writer) as report:
+        seen = Run(command, report, screen)
         for document in documents:
             seen.take(document)
         seen.end()
-        progress.end()
+        screen.end()
         report.is_whole = not seen.counts.unread
     if command.has_statistics:
         screen.write(seen.statistics.said().encode("utf-8", "surrogateescape"))
@@ -78,20 +77,16 @@ def _current_folder() -> str:
         raise Refusal("the current folder can't be read: {}".format(reason_of(error))) from None
 
 
-def _leave(_lines: bytes) -> None:
-    """Writes nothing."""
-
-
-def _documents(command: Command, settings: Settings, entries: Iterable[Entry]) -> Iterator[Document]:
+def _documents(command: Command, entries: Iterable[Entry]) -> Iterator[Document]:
     """The documents, each with what it is checked by. Raises ``Misconfigured``."""
-    has_mended = shows_mended(settings.format) or settings.fixing is not None
-    held: Dict[str, Tuple[Effective, Optional[Checker]]] = {}
+    has_mended = shows_mended(command.format) or command.fixing is not None
+    held: Dict[str, Tuple[Configuration, Optional[Checker]]] = {}
     for entry in entries:
         if entry.config.file not in held:
-            counts = effective(entry.config, command.given, "options")
-            checker = counts.checker(has_mended, wording="options") if command.is_checked else None
+            counts = command.given.over(entry.config, "options")
+            checker = Checker(counts, has_mended, wording="options") if command.is_checked else None
             held[entry.config.file] = counts, checker
-        yield Document(settings, entry, *held[entry.config.file])
+        yield Document(command, entry, *held[entry.config.file])
 
 
 def _unwritten(command: Command, project: Project, entries: List[Entry]) -> List[Entry]:
@@ -141,11 +136,10 @@ def _outputs(command: Command) -> Tuple[Optional[Output], Optional[Output]]:
     return report, Output(command.baseline)
 
 
-def _paint(command: Command, format: str) -> Optional[Paint]:
-    """What gives a report its colours, if it has some."""
-    is_report = command.is_checked and command.output is None and not command.has_statistics
-    is_painted = is_report and format in COLOURED and are_wanted(command.colour, sys.stdout)
-    return (lambda lines: coloured(format, lines)) if is_painted else None
+def _is_coloured(command: Command) -> bool:
+    """Whether a report has colours: one that people read, on standard output."""
+    is_read = command.is_checked and command.format in COLOURED and command.output is None
+    return is_read and are_wanted(command.colour, sys.stdout)
 
 
 def _ended(command: Command, seen: Run, found: Documents, output: Optional[Output], known: Optional[Output]) -> int:
@@ -187,7 +181,7 @@ def _counted(counts: Counts, command: Command) -> str:
     said += ["{} refused".format(counts.refused)] * command.is_checked
     said += ["{} ignored".format(counts.ignored)]
     said += ["{} known".format(counts.known)] * bool(command.known)
-    fixing = command.settings.fixing
+    fixing = command.fixing
     if fixing is not None:
         said += ["{} would be fixed".format(counts.shown) if fixing.is_shown else "{} fixed".format(counts.fixed)]
     return ", ".join(said)

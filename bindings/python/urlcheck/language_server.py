@@ -22,7 +22,6 @@ except ImportError:
 
 from . import version
 from ._documents.configuration import NONE, OWN, PROJECT, Configuration, Misconfigured, Project
-from ._documents.effective import Effective, effective
 from ._editors.checking import NOTE, START, Asked, Checking, Remark, Seen, unread
 from ._editors.editing import Text, encoding_for
 from ._editors.opened import Document, Opened, Outdated
@@ -80,7 +79,7 @@ class Settled(NamedTuple):
     """What a document is checked by."""
 
     kind: Optional[str]
-    counts: Effective
+    counts: Configuration
     remarks: Tuple[Remark, ...] = ()
     """What is wrong with the project's configuration."""
 
@@ -227,11 +226,11 @@ class Server(MethodDispatcher):  # type: ignore[misc]
 
     def _settled(self, document: Document) -> Settled:
         """What a document is checked by."""
-        options, config = self._options, NONE
-        counts, remarks = effective(NONE, NONE), []
+        given, config = self._options.given, NONE
+        counts, remarks = NONE, []
         try:
             config = _configuration(self._project, document.uri)
-            counts = effective(config, options.given())
+            counts = given.over(config)
         except Misconfigured as misconfigured:
             remarks.append(Remark(START, str(misconfigured), NOTE))
         return Settled(_kind(document, config), counts, tuple(remarks))

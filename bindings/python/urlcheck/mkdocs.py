@@ -12,13 +12,14 @@ from typing import Any, List, Optional, Set
 
 from . import Profile
 from ._documents.configuration import Configuration, Misconfigured, Project
-from ._documents.effective import effective
 from ._readers import html_links, markdown_links
 from ._readers.comments import covered
 from ._readers.front_matter import front_matter_of
 from ._readers.literals import Literals
 from ._readers.source import Asks, Link, Source
+from ._reports.checker import Checker
 from ._reports.ignoring import Ignoring
+from ._reports.rules import ALL
 from ._streams import shown
 
 _OPTIONS: Any = importlib.import_module("mkdocs.config.config_options")
@@ -61,11 +62,8 @@ class Plugin(_PLUGINS.BasePlugin):  # type: ignore[misc]
             )
             if given.base is None and project.base is None:
                 given = given._replace(base=config["site_url"] or None)
-            counts = effective(project, given)
-            self._checker = counts.checker(False)
-            self._is_all_reported = counts.selected.are_all()
-            self._ignored = counts.ignored
-            self._is_gfm = counts.gfm
+            self._counts = given.over(project)
+            self._checker = Checker(self._counts, False)
         except re.error as error:
             raise failed("urlcheck: ignore has no regular expression: {}".format(error)) from None
         except Misconfigured as misconfigured:
@@ -89,11 +87,11 @@ class Plugin(_PLUGINS.BasePlugin):  # type: ignore[misc]
         text = source if source is not None and is_written else Source(markdown)
         front = front_matter_of(text.text)
         self._first = text.position(front[0])[0] if front and is_written else 1
-        links, comments, *_more = markdown_links.links_of(text, self._is_gfm)
+        found = markdown_links.links_of(text, bool(self._counts.gfm))
         self._written = text if is_written else None
-        self._comments, self._ignoring = comments, Ignoring(comments)
+        self._comments, self._ignoring = found.comments, Ignoring(found.comments, self._counts.ignored)
         self._texts: List[Link] = []
-        for link in covered(text, links, comments):
+        for link in covered(text, found.links, found.comments):
             if link.asks is Asks.ANOTHER and self.config["rendered"]:
                 self._texts.append(link)
                 continue
@@ -107,7 +105,7 @@ class Plugin(_PLUGINS.BasePlugin):  # type: ignore[misc]
         """Checks what Python-Markdown made of it, for links that CommonMark doesn't have; then nothing more is asked of
         the comments."""
         if self.config["rendered"]:
-            for link in html_links.links_of(Source(html))[0]:
+            for link in html_links.links_of(Source(html)).links:
                 text = _ABOVE.sub("", link.text)
                 if text not in self._seen:
                     self._seen.add(text)
@@ -116,7 +114,7 @@ class Plugin(_PLUGINS.BasePlugin):  # type: ignore[misc]
         for link in self._texts:
             if link.text not in self._seen:
                 self._tell(page.file.src_path, link, self._written)
-        for remark in self._ignoring.remarks(self._is_all_reported):
+        for remark in self._ignoring.remarks(self._counts.selected == ALL):
             where = ":{}:{}".format(*self._written.position(remark.offset)) if self._written is not None else ""
             _LOG.warning("%s%s: %s [comment]", page.file.src_path, where, remark.message)
         return None
@@ -137,7 +135,7 @@ class Plugin(_PLUGINS.BasePlugin):  # type: ignore[misc]
         """Warns about a link, if it is wrong and isn't meant like that, at its place in this source, if that is
         known."""
         wrong, is_left_out = self._ignoring.wrong(self._checker, link)
-        if wrong is None or is_left_out or any(it.search(link.text) for it in self._ignored):
+        if wrong is None or is_left_out:
             return
         where = "" if source is None else ":{}:{}".format(*source.position(link.place(wrong.place)))
         _LOG.warning("%s%s: %s: %s [%s]", name, where, shown(link.text), wrong.message, wrong.rule)

@@ -11,13 +11,13 @@ from typing import Any, Dict, Iterator, List, NamedTuple, Optional, Sequence, Tu
 
 from . import Profile, version
 from ._documents.configuration import Configuration, Misconfigured, Project
-from ._documents.effective import Effective, effective
 from ._readers import markdown_links, rst_links
 from ._readers.comments import covered
 from ._readers.literals import Literals
 from ._readers.source import Comment, Link, Source
 from ._reports.checker import Checker
 from ._reports.ignoring import Ignoring
+from ._reports.rules import ALL
 from ._streams import shown
 
 _LOG: Any = importlib.import_module("sphinx.util.logging").getLogger(__name__)
@@ -48,12 +48,9 @@ class _Found(NamedTuple):
 class _Settings(NamedTuple):
     """What links are checked by."""
 
+    counts: Configuration
     checker: Checker
-    ignored: Tuple["re.Pattern[str]", ...]
     has_columns: bool
-    is_gfm: bool
-    is_all_reported: bool
-    """Whether what violates any rule is reported."""
 
 
 def setup(app: Any) -> Dict[str, Any]:
@@ -76,21 +73,15 @@ changed since the last build, as by a project's file."""
 
 def _configure(app: Any, config: Any) -> None:
     """Notes what links of this build are checked by. Raises Sphinx's ``ConfigError``."""
-    counts = _effective(app)
-    patterns, rules = [it.pattern for it in counts.ignored], sorted(counts.selected.names)
-    by = int(counts.profile), counts.base, patterns, counts.gfm, counts.is_empty_taken, rules
+    counts = _counts(app)
+    patterns, rules = [it.pattern for it in counts.ignored], sorted(counts.selected)
+    by = counts.profile, counts.base, patterns, counts.gfm, counts.is_empty_taken, rules
     setattr(config, _COUNTS, repr(by))
     is_gfm = counts.gfm or "linkify" in (getattr(config, "myst_enable_extensions", None) or ())
-    app.urlcheck_settings = _Settings(
-        checker=counts.checker(False),
-        ignored=counts.ignored,
-        has_columns=config.urlcheck_columns,
-        is_gfm=is_gfm,
-        is_all_reported=counts.selected.are_all(),
-    )
+    app.urlcheck_settings = _Settings(counts._replace(gfm=is_gfm), Checker(counts, False), config.urlcheck_columns)
 
 
-def _effective(app: Any) -> Effective:
+def _counts(app: Any) -> Configuration:
     """What links are checked by: what conf.py says, otherwise the project's configuration. Raises Sphinx's
     ``ConfigError``."""
     failed: Any = importlib.import_module("sphinx.errors").ConfigError
@@ -107,7 +98,7 @@ def _effective(app: Any) -> Effective:
             ignored=tuple(re.compile(it) for it in config.urlcheck_ignore),
             is_empty_taken=config.urlcheck_no_empty,
         )
-        return effective(project, given)
+        return given.over(project)
     except re.error as error:
         raise failed("urlcheck_ignore: not a regular expression: {}".format(error)) from None
     except Misconfigured as misconfigured:
@@ -130,11 +121,11 @@ def _check_document(app: Any, tree: Any) -> None:
     comments: Sequence[Comment] = ()
     if written is not None and _is_markdown(app, path):
         # (MyST percent-encodes what it reads, so that its nodes don't say what was written)
-        links, comments, *_ = markdown_links.links_of(written, settings.is_gfm)
-        found = [_Found(_Said(path, written.position(it.offset)[0], it.text), written, it) for it in links]
+        whole = markdown_links.links_of(written, bool(settings.counts.gfm))
+        comments = whole.comments
+        found = [_Found(_Said(path, written.position(it.offset)[0], it.text), written, it) for it in whole.links]
     elif written is not None:
-        nodes: Any = importlib.import_module("docutils.nodes")
-        own = [it for it in tree.findall(nodes.comment) if _place(it, path)[0] == path]
+        own = [it for it in tree.findall(rst_links.nodes().comment) if _place(it, path)[0] == path]
         comments = rst_links.comments_in(written, own)
     read = {(it.link.text, it.said.line) for it in found}
     for said in _said(tree, path):
@@ -151,7 +142,7 @@ def _check_document(app: Any, tree: Any) -> None:
 def _tell_all(settings: _Settings, found: List[_Found], comments: Sequence[Comment], document: _Found) -> None:
     """Warns of the links of a document that are wrong, but for those that its comments leave out, and of comments."""
     source = document.source
-    ignoring = Ignoring(comments)
+    ignoring = Ignoring(comments, settings.counts.ignored)
     own = [it for it in found if it.source is source]
     if source is not None:
         links = covered(source, [it.link for it in own], comments)
@@ -159,7 +150,7 @@ def _tell_all(settings: _Settings, found: List[_Found], comments: Sequence[Comme
         found = others + [it._replace(link=link) for it, link in zip(own, links)]
     for it in found:
         _tell(settings, it, ignoring)
-    for remark in ignoring.remarks(settings.is_all_reported):
+    for remark in ignoring.remarks(settings.counts.selected == ALL):
         line = source.position(remark.offset)[0] if source is not None else 1
         location = "{}:{}".format(document.said.path, line)
         _LOG.warning("%s [comment]", remark.message, location=location, type="urlcheck", subtype="comment")
@@ -181,12 +172,11 @@ def _is_sought(settings: _Settings, said: _Said) -> bool:
 
 def _said(tree: Any, path: str) -> Iterator[_Said]:
     """The links and the HTML of a document's nodes."""
-    nodes: Any = importlib.import_module("docutils.nodes")
     addnodes: Any = importlib.import_module("sphinx.addnodes")
     for node in tree.findall():
         if isinstance(node, addnodes.toctree):
             yield from (_Said(*_place(node, path), to) for _, to in node["entries"] if "://" in to)
-        elif isinstance(node, nodes.raw) and "html" in node.get("format", "").split():
+        elif isinstance(node, rst_links.nodes().raw) and "html" in node.get("format", "").split():
             # (it may be in another file, which the document names)
             named = node.get("source", "")
             where = (os.path.abspath(named), 1) if os.path.exists(named) else _place(node, path)
@@ -217,7 +207,7 @@ def _tell(settings: _Settings, found: _Found, ignoring: Ignoring) -> None:
     """Warns about a link, if it is wrong and isn't meant like that."""
     said, source, link = found
     wrong, is_left_out = ignoring.wrong(settings.checker, link)
-    if wrong is None or is_left_out or any(it.search(said.text) for it in settings.ignored):
+    if wrong is None or is_left_out:
         return
     where: List[Any] = [said.path, said.line]
     column = ""

@@ -84,7 +84,7 @@ class Together(unittest.TestCase):
         client = self.start()
         slow, quick = "file:///nowhere/slow.md", "file:///nowhere/quick.html"
         client.versions[slow] = 1
-        text = "text *[a](http://h/)* and **more** `of` it\n\n" * 30_000
+        text = "text *[a](http://h/)* and **more** `of` it\n\n" * 400_000
         client.tell("textDocument/didOpen", {"textDocument": {"uri": slow, "languageId": "x", "version": 1, "text": text}})
         self.assertEqual(len(client.open(quick, WIDE)), 1)
         for number in range(3):
@@ -93,7 +93,7 @@ class Together(unittest.TestCase):
                 pass
         hover = client.ask("textDocument/hover", {"textDocument": {"uri": quick}, "position": {"line": 0, "character": 16}})
         self.assertIn("host-domain", hover["result"]["contents"]["value"])
-        told = [it["params"]["uri"] for it in client.notified if "uri" in it["params"]]
+        told = [it["params"]["uri"] for it in client.passed + client.notified if "uri" in it["params"]]
         self.assertNotIn(slow, told, "the slow text is checked too fast to hold up anything")
         self.assertEqual(client.diagnostics(slow), [])
         self.assertEqual(client.end(), 0)

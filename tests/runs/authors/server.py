@@ -36,6 +36,8 @@ class Client:
         self.process = subprocess.Popen(PROGRAM, stdin=subprocess.PIPE, stdout=subprocess.PIPE, stderr=subprocess.PIPE)
         self.number = 0
         self.notified = []
+        # (what was said of other documents while one was waited for)
+        self.passed = []
         self.asked = []
         self.versions = {}
         self.patience = PATIENCE
@@ -110,6 +112,7 @@ class Client:
             if said.get("method") == "textDocument/publishDiagnostics" and params["uri"] == uri:
                 if params.get("version", self.versions[uri]) == self.versions[uri]:
                     return params["diagnostics"]
+            self.passed.append(said)
 
     def actions(self, uri, range, **context):
         params = {"textDocument": {"uri": uri}, "range": range, "context": {"diagnostics": [], **context}}

@@ -101,7 +101,7 @@ SPOILS: Dict[str, Tuple[str, Edit, Tuple[str, ...]]] = {
     ),
     "what wasn't read is gone": (
         "_reports/baseline.py",
-        ("return file in self._whole and self._whole[file].has(rule)", "return True"),
+        ("return file in self._whole and rule in self._whole[file]", "return True"),
         _of_cases("aren't gone"),
     ),
     # ---- what is written in place of links
@@ -204,7 +204,7 @@ SPOILS: Dict[str, Tuple[str, Edit, Tuple[str, ...]]] = {
     ),
     # ---- differences and names
     "a difference has no mark": (
-        "_fixes/difference.py",
+        "_fixes/edits.py",
         ("    if has_mark:\n", "    if not edits:\n"),
         _of_cases("a difference for patch"),
     ),

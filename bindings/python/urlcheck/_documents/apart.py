@@ -12,25 +12,12 @@ from typing import Iterator, List, NamedTuple, Optional, Sequence, Tuple
 
 from .._fixes.fixing import Fixed
 from .._reports.baseline import Known
+from .._reports.finding import Told, lines_on
+from .._reports.names import Name
+from .._reports.report import Reported
 from .._streams import reason_of, write_nowhere
 from . import limits
 from .started import hand_on, started
-
-
-class Told(NamedTuple):
-    """What is told of a document besides its links: why it wasn't read to its end, or what is wrong with a comment."""
-
-    reason: str
-    line: Optional[int] = None
-    """The line where its reader stopped or the comment is, from 1, if it had begun."""
-    column: Optional[int] = None
-    """The column there, from 1."""
-    inner: str = ""
-    """The document within it that it is about, if it holds others."""
-
-    def after(self) -> str:
-        """What is said after the document's name."""
-        return ": " + self.reason if self.line is None else ":{}:{}: {}".format(self.line, self.column, self.reason)
 
 
 class Counted(NamedTuple):
@@ -50,11 +37,10 @@ class Taken:
     links: int = 0
     refused: int = 0
     ignored: int = 0
+    first: Optional[Tuple[Name, Reported]] = None
+    """The first link in the report, with its document: its text depends on whether others come before it."""
     lines: bytearray = field(default_factory=bytearray)
-    """What the report says about its links, but for the first link that it says something about."""
-    first: Tuple[bytes, bytes] = (b"", b"")
-    """What the report says about the first such link, if others come before it and if none does; both empty if it says
-    nothing about links."""
+    """What the report says about its other links."""
     counted: List[Counted] = field(default_factory=list)
     """Its faults, if they are counted."""
     known: List[str] = field(default_factory=list)
@@ -79,15 +65,14 @@ class Taken:
         self.links += 1
         self.lines += line.encode("utf-8", "surrogateescape")
 
-    def add_refused(self, lines: Callable[[bool], str]) -> None:
-        """Adds a refused link, with what the report says about it, by whether it is the first one in the report."""
+    def add_refused(self, format: str, is_coloured: bool, name: Name, found: Reported) -> None:
+        """Adds a refused link of the document of that name, with what a report of this format says about it."""
         self.links += 1
         self.refused += 1
-        after = lines(False).encode("utf-8", "surrogateescape")
-        if self.first[0]:
-            self.lines += after
+        if self.first is None:
+            self.first = name, found
         else:
-            self.first = after, lines(True).encode("utf-8", "surrogateescape")
+            self.lines += lines_on(format, is_coloured, name, found, False)
 
     def add_ignored(self) -> None:
         """Adds a link that is left out."""

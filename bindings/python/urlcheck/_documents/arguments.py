@@ -6,7 +6,7 @@ import os
 import re
 import sys
 import textwrap
-from typing import Any, Callable, Dict, FrozenSet, List, NamedTuple, Optional, Tuple
+from typing import Any, Callable, Dict, List, NamedTuple, Optional, Tuple
 
 from .. import FORMATS, UNITS, Profile, version
 from .._fixes.fixing import Fixing
@@ -16,39 +16,29 @@ from .._reports import baseline
 from .._reports.checker import SOMEWHERE
 from .._reports.colours import WHENS
 from .._reports.report import own_unit, takes_unit
-from .._reports.selected import NoRule, are_rules, nearest, rules_of
+from .._reports.rules import NoRule, are_rules, nearest, rules_of
 from .._streams import flush, reason_of, stop, tell, write
 from .argument_parser import Parser, chosen
-from .configuration import Configuration, Misconfigured
-from .excluded import Excluded
+from .configuration import Configuration, Excluded, Misconfigured
 from .folders import meant
-
-
-class Settings(NamedTuple):
-    """What all documents of a run are read and reported by."""
-
-    kind: Optional[str] = None
-    """The kind of all of them, whatever their names say."""
-    format: str = "gnu"
-    unit: str = "code-points"
-    """What columns count."""
-    fixing: Optional[Fixing] = None
-    """What is written in place of links, if something is."""
-    known: FrozenSet[str] = frozenset()
-    """The fingerprints of the faults that aren't reported."""
-    is_counted: bool = False
-    """Whether each fault is wanted besides its report, for what is counted of all or kept as known."""
 
 
 class Command(NamedTuple):
     """What is asked for."""
 
     files: List[str]
-    settings: Settings
-    given: Configuration
-    """What goes before a project's configuration."""
+    kind: Optional[str]
+    """The kind of all documents, whatever their names say."""
+    format: str
+    """The format of the report."""
+    unit: str
+    """What columns count."""
     is_unit_left: bool
     """Whether no unit of columns is given, so that the format's counts."""
+    fixing: Optional[Fixing]
+    """What is written in place of links, if something is."""
+    given: Configuration
+    """What goes before a project's configuration."""
     stdin_name: Optional[str]
     """The name of the document on standard input."""
     is_by_git: bool
@@ -73,13 +63,19 @@ class Command(NamedTuple):
     reads: List[str]
     """The files that are read besides documents."""
     colour: str
+    """When the report has colours."""
+    is_coloured: bool = False
+    """Whether it has some."""
+
+    def is_counted(self) -> bool:
+        """Whether each fault is wanted besides its report, for what is counted of all or kept as known."""
+        return self.has_statistics or self.baseline is not None
 
 
 Add = Callable[..., Any]
 """What adds an option to a group of them."""
 
 _PROFILES = [it.name.lower() for it in Profile]
-_KINDS = list(KINDS)
 _MOST_JOBS = 256
 
 _ABOUT = """\
@@ -138,22 +134,18 @@ def asked(words: List[str]) -> Command:
     given = _given(parser, words)
     format = "gnu" if given.format is None else chosen(given.format, list(FORMATS), "format")
     unit = _unit(given.columns, format)
-    kind = None if given.kind is None else chosen(given.kind, _KINDS, "kind", kind_of(given.kind))
+    kind = None if given.kind is None else chosen(given.kind, list(KINDS), "kind", kind_of(given.kind))
     is_checked = _is_checked(parser, given)
     patterns = [name for name in given.ignore if not are_rules(name)]
     known = {} if given.baseline is None else _known(given.baseline)
     return Command(
         files=given.files,
-        settings=Settings(
-            kind=kind,
-            format=format,
-            unit=unit,
-            fixing=Fixing(given.unsafe_fixes, given.diff) if given.fix or given.diff else None,
-            known=frozenset(known),
-            is_counted=given.statistics or given.write_baseline is not None,
-        ),
-        given=_configured(given, patterns),
+        kind=kind,
+        format=format,
+        unit=unit,
         is_unit_left=given.columns is None,
+        fixing=Fixing(given.unsafe_fixes, given.diff) if given.fix or given.diff else None,
+        given=_configured(given, patterns),
         stdin_name=given.stdin_name,
         is_by_git=given.git,
         is_configured=not given.no_config,
@@ -170,18 +162,7 @@ def asked(words: List[str]) -> Command:
     )
 
 
-_OF_CHECKS = (
-    "check",
-    "fix",
-    "diff",
-    "unsafe_fixes",
-    "format",
-    "select",
-    "statistics",
-    "exit_zero",
-    "baseline",
-    "write_baseline",
-)
+_OF_CHECKS = "check fix diff unsafe_fixes format select statistics exit_zero baseline write_baseline".split()
 """The options that are about links that are checked."""
 
 
@@ -235,18 +216,18 @@ def _known(name: str) -> Dict[str, str]:
         raise SystemExit(stop("{}: {}".format(name, no_baseline)))
 
 
-def with_format(command: Command, project: Configuration) -> Settings:
-    """The settings with the format that a project's configuration names, if none is given. Raises ``Misconfigured``."""
-    name, settings = project.format, command.settings
+def with_format(command: Command, project: Configuration) -> Command:
+    """A command with the format that a project's configuration names, if none is given. Raises ``Misconfigured``."""
+    name = project.format
     if name is None or command.given.format is not None or not command.is_checked:
-        return settings
+        return command
     if name not in FORMATS:
         names = " ".join(FORMATS)
         raise Misconfigured("{}: no format is named '{}': there are {}".format(project.file, name, names))
-    unit = own_unit(name) if command.is_unit_left else settings.unit
+    unit = own_unit(name) if command.is_unit_left else command.unit
     if not takes_unit(name, unit):
         raise Misconfigured("{}: {} doesn't support the column unit {}".format(project.file, name, unit))
-    return settings._replace(format=name, unit=unit)
+    return command._replace(format=name, unit=unit)
 
 
 def _jobs(parser: Parser, word: str) -> int:
@@ -311,7 +292,7 @@ def _parser() -> Parser:
 def _add_of_input(add: Add) -> None:
     """Adds the options that say which documents are read, and how."""
     helped = "read all documents as this kind: {}; default: by their names"
-    add("--type", dest="kind", metavar="KIND", help=helped.format(listed(_KINDS)))
+    add("--type", dest="kind", metavar="KIND", help=helped.format(listed(list(KINDS))))
     helped = (
         "leave out the files and folders in a folder whose name, or whose path in that folder, matches a shell "
         "pattern; may be repeated"

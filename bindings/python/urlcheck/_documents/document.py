@@ -11,19 +11,20 @@ from typing import Iterator, List, Optional, Tuple
 
 from .._fixes.edits import Edit
 from .._fixes.fixing import CHANGING, IN_BOOK, UNREAD, UNSAFE, Fixing, fixed, more_texts, why_left
-from .._readers.kinds import ARCHIVES, PACKAGES, is_list
-from .._readers.reading import MOST_BYTES, Found, Reading, Unread, found_in
-from .._readers.source import Broken, Foreign, Link
+from .._readers.kinds import ARCHIVES, PACKAGES, is_like_html, is_list
+from .._readers.reading import COMPRESSED, MOST_BYTES, Reading, Unread, found_in
+from .._readers.source import Contents, Foreign, Link
 from .._reports.baseline import Numbered
 from .._reports.checker import Checker, Wrong
 from .._reports.columns import Places
-from .._reports.finding import lines_on
+from .._reports.finding import Told
 from .._reports.ignoring import Ignoring
 from .._reports.names import Name, Unlisted
+from .._reports.rules import ALL
 from .._streams import closed, reason_of
-from .apart import Counted, Taken, Told, nothing
-from .arguments import Settings
-from .effective import Effective
+from .apart import Counted, Taken, nothing
+from .arguments import Command
+from .configuration import Configuration
 from .folders import Entry, is_device
 from .limits import has_come
 
@@ -72,36 +73,23 @@ def _meant(name: str, error: OSError) -> str:
     return "; links are checked without a command" if name in _COMMANDS and error.errno == errno.ENOENT else ""
 
 
-def _placed(places: Places, offset: int, reason: str, inner: str = "") -> Told:
-    """Why a document can't be read to its end, which is found at a place of it."""
-    return Told(reason, *places.position(offset), inner)
-
-
-def _stopped(places: Places, found: Found) -> Optional[Told]:
-    """Why a document can't be read from where its reader stopped, if it did."""
-    broken: Optional[Broken] = found.broken
-    if broken is None:
-        return None
-    return _placed(places, broken.offset, "can't be read from here on: " + broken.reason, found.inner)
-
-
 class Document:
     """A document that is read: where it is, and what it is read and checked by."""
 
-    def __init__(self, settings: Settings, entry: Entry, counts: Effective, checker: Optional[Checker]) -> None:
-        self._settings = settings
+    def __init__(self, command: Command, entry: Entry, counts: Configuration, checker: Optional[Checker]) -> None:
+        self._command = command
         self.entry = entry
         self.is_input = entry.path == "-"
         self.name = entry.name
-        self.kind = settings.kind or entry.kind
+        self.kind = command.kind or entry.kind
         self.counts = counts
         self._checker = checker
         """What checks its links, unless they are listed."""
-        self._reading = Reading(counts.gfm)
+        self._reading = Reading(bool(counts.gfm))
 
     def unfixed(self) -> "Document":
         """The same, as it is."""
-        return Document(self._settings._replace(fixing=None), self.entry, self.counts, self._checker)
+        return Document(self._command._replace(fixing=None), self.entry, self.counts, self._checker)
 
     def work(self) -> int:
         """About how much work it is: enough for a process of its own if it isn't a file, and so can't be read twice."""
@@ -122,14 +110,15 @@ class Document:
             yield nothing(str(reason))
         except Foreign as foreign:
             before = foreign.before
-            places = Places(before, self._settings.unit)
-            yield Taken(fault=_placed(places, len(before.text), str(foreign)))
+            places = Places(before, self._command.unit)
+            yield Taken(fault=Told(str(foreign), *places.position(len(before.text))))
         except RecursionError:
             yield nothing("is nested too deeply")
 
-    def _parts_of(self, found: Found, part: Taken) -> Iterator[Taken]:
+    def _parts_of(self, found: Contents, part: Taken) -> Iterator[Taken]:
         """What is found in a source, in parts that are small enough to be handed to another process."""
-        places, ignoring = Places(found.source, self._settings.unit), Ignoring(found.comments)
+        places = Places(found.source, self._command.unit)
+        ignoring = Ignoring(found.comments, self.counts.ignored)
         name = Name(self.name.file, found.inner)
         numbered = Numbered(name)
         for link in found.links:
@@ -141,18 +130,20 @@ class Document:
             if part.is_full():
                 yield part
                 part = Taken()
-        part.fault = part.fault or _stopped(places, found)
+        if found.broken is not None and part.fault is None:
+            why = "can't be read from here on: " + found.broken.reason
+            part.fault = Told(why, *places.position(found.broken.offset), found.inner)
         part.lost = len(found.lost)
-        part.notes, part.warnings = found.notes, self._warnings(found, places, ignoring)
+        part.notes, part.warnings = tuple(found.notes), self._warnings(found, places, ignoring)
         yield part
 
-    def _warnings(self, found: Found, places: Places, ignoring: Ignoring) -> Tuple[Told, ...]:
+    def _warnings(self, found: Contents, places: Places, ignoring: Ignoring) -> Tuple[Told, ...]:
         """What is said about comments, if links are checked, and about parts that couldn't be read."""
-        is_all = self.counts.selected.are_all() and found.broken is None and not found.lost
+        is_all = self.counts.selected == ALL and found.broken is None and not found.lost
         remarks = ignoring.remarks(is_all) if self._checker is not None else ()
         lost = [(it.offset, "isn't read: " + it.what) for it in found.lost]
         said = sorted([*lost, *((it.offset, it.message) for it in remarks)])
-        return tuple(_placed(places, offset, "warning: " + message, found.inner) for offset, message in said)
+        return tuple(Told("warning: " + what, *places.position(offset), found.inner) for offset, what in said)
 
     def _take(self, part: Taken, given: Tuple[Name, Places, Link], ignoring: Ignoring, numbered: Numbered) -> None:
         """Adds a link of the document of that name, and what is wrong with it, if something is. Raises
@@ -160,13 +151,13 @@ class Document:
         name, places, link = given
         if self._checker is None:
             line = located(name, places, link)
-            if ignoring.leaves_out(link) or self.counts.leaves_out(link.text):
+            if ignoring.leaves_out(link):
                 part.add_ignored()
             else:
                 part.add(line)
             return
         wrong, is_left_out = ignoring.wrong(self._checker, link)
-        if is_left_out or self.counts.leaves_out(link.text):
+        if is_left_out:
             part.add_ignored()
         elif wrong is None:
             part.add()
@@ -177,23 +168,23 @@ class Document:
         """Adds what is wrong with a link, unless it is known."""
         name, places, link = given
         known, repeat = numbered.next(wrong.rule, wrong.place, link.text)
-        if known.fingerprint in self._settings.known:
+        if known.fingerprint in self._command.known:
             part.add_known(known.fingerprint)
             return
         assert self._checker is not None
-        reported = self._checker.reported(places, link, wrong, repeat)
-        part.add_refused(lambda is_first: lines_on(self._settings.format, name, reported, is_first))
-        if self._settings.is_counted:
+        found = self._checker.reported(places, link, wrong, repeat)
+        part.add_refused(self._command.format, self._command.is_coloured, name, found)
+        if self._command.is_counted():
             part.counted.append(Counted(wrong.rule, link.text, known))
-        if self._settings.fixing is not None and self.kind in ARCHIVES:
+        if self._command.fixing is not None and self.kind in ARCHIVES:
             part.left[IN_BOOK] += 1
 
-    def _found(self) -> Iterator[Tuple[Found, Taken]]:
+    def _found(self) -> Iterator[Tuple[Contents, Taken]]:
         """What is found in the document, or in each one that it holds, and the part that each begins. If fixes are
         asked for, that is after its links are fixed; if they are only shown, as the links are."""
         data = self._read()
         assert self.kind is not None
-        kind, fixing = self.kind, self._settings.fixing
+        kind, fixing = self.kind, self._command.fixing
         if fixing is None or kind in ARCHIVES:
             for number, found in enumerate(found_in(data, kind, self._reading)):
                 yield found, Taken(documents=int(number == 0))
@@ -214,7 +205,7 @@ class Document:
             left, more = Counter({why: len(edits)}) + left, 0
         yield found, Taken(documents=1, unsafe=more, left=left)
 
-    def _edits(self, found: Found, fixing: Fixing) -> Tuple[List[Edit], List[Edit], Counts[str]]:
+    def _edits(self, found: Contents, fixing: Fixing) -> Tuple[List[Edit], List[Edit], Counts[str]]:
         """What is written in place of wrong links, what would be besides if unsafe fixes were too, and why nothing is
         in place of how many others. Known faults stay as they are."""
         edits: List[Edit] = []
@@ -231,16 +222,17 @@ class Document:
                 left[why] += 1
         return edits, unsafe, left
 
-    def _refused_in(self, found: Found) -> Iterator[Tuple[Link, Wrong]]:
+    def _refused_in(self, found: Contents) -> Iterator[Tuple[Link, Wrong]]:
         """The links that are refused and aren't known, except those that a comment is about."""
-        ignoring, numbered = Ignoring(found.comments), Numbered(Name(self.name.file, found.inner))
+        ignoring = Ignoring(found.comments, self.counts.ignored)
+        numbered = Numbered(Name(self.name.file, found.inner))
         assert self._checker is not None
         for link in found.links:
             wrong, is_left_out = ignoring.wrong(self._checker, link)
-            if wrong is None or is_left_out or self.counts.leaves_out(link.text):
+            if wrong is None or is_left_out:
                 continue
             known, _ = numbered.next(wrong.rule, wrong.place, link.text)
-            if known.fingerprint not in self._settings.known and not ignoring.is_about(link):
+            if known.fingerprint not in self._command.known and not ignoring.is_about(link):
                 yield link, wrong
 
     def _read(self) -> bytes:
@@ -251,12 +243,16 @@ class Document:
         if self.kind is None:
             if path != "-" and not os.path.exists(path):
                 read_document(path)
+            if path.endswith(".gz"):
+                raise Unread(COMPRESSED)
             says = "it has no name that says its kind" if self.name.file == "-" else "it has no known file extension"
+            if is_like_html(self.name.file):
+                raise Unread(says + ": --type html reads it as a page of HTML")
             more = "; urlcheck lint checks a list of links" if is_list(path) else ""
             raise Unread(says + ": give --type html, xml, markdown or another kind" + more)
         if self._checker is None:
             self.name.in_list()
-        if self._settings.fixing is not None and is_device(path):
+        if self._command.fixing is not None and is_device(path):
             raise Unread("isn't a regular file, and isn't fixed")
         data = read_document(path)
         has_come()

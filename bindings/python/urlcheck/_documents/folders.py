@@ -15,8 +15,7 @@ from .._fixes.writing import AFTER, BEFORE
 from .._readers.kinds import PACKAGES, end_of
 from .._reports.names import Name
 from .._streams import reason_of
-from .configuration import Configuration, Project
-from .excluded import Excluded
+from .configuration import Configuration, Excluded, Project
 from .git import NoGit, files_of
 
 _COUNTED = frozenset(("css",))

@@ -10,12 +10,12 @@ from .._fixes.fixing import Fixed, Fixing
 from .._fixes.writing import Unwritten, replace
 from .._readers.reading import prepare
 from .._reports.baseline import Compared
-from .._reports.finding import Report, not_read
+from .._reports.finding import Report, Told, not_read
 from .._reports.names import Name
 from .._reports.statistics import Statistics
 from .._streams import reason_of
-from .apart import Apart, Parts, Taken, Told, apart
-from .arguments import Command, Settings
+from .apart import Apart, Parts, Taken, apart
+from .arguments import Command
 from .document import ENOUGH, Document
 from .screen import Screen
 
@@ -55,9 +55,8 @@ class Counts:
 class Run:
     """The documents read so far: what was asked for, and what was seen."""
 
-    def __init__(self, command: Command, settings: Settings, report: Report, screen: Screen) -> None:
+    def __init__(self, command: Command, report: Report, screen: Screen) -> None:
         self._command = command
-        self._settings = settings
         self._report = report
         self._screen = screen
         self._noted: Set[str] = set()
@@ -113,7 +112,7 @@ class Run:
         is_whole, is_passed = True, self._command.is_checked
         for taken in self._fixed(document, apart):
             self.counts.add(taken)
-            self._report.add(*taken.first, bytes(taken.lines))
+            self._report.add(taken.first, bytes(taken.lines))
             self._count(taken)
             is_whole = is_whole and taken.fault is None and not taken.lost
             is_passed = is_passed and not taken.refused and taken.fault is None
@@ -123,7 +122,7 @@ class Run:
                 self._tell(document, warning)
             if taken.fault is not None:
                 name = Name(document.name.file, taken.fault.inner)
-                self._report.tell(not_read(self._settings.format, name, taken.fault))
+                self._report.tell(not_read(self._command.format, name, taken.fault))
                 self._tell(document, taken.fault)
         if is_whole:
             self.compared.has_read(document.name, document.counts.selected)
@@ -144,7 +143,7 @@ class Run:
 
     def _fixed(self, document: Document, given: Apart) -> Iterable[Taken]:
         """What a document gives, after what is fixed in it was written. Where that can't be it is read as it is."""
-        fixing = self._settings.fixing
+        fixing = self._command.fixing
         if fixing is None:
             return given.taken()
         held = list(given.taken())

@@ -11,19 +11,19 @@ import subprocess
 import sys
 import threading
 import time
-from typing import IO, Any, Callable, Dict, Iterator, List, NamedTuple, Optional, Tuple
+from typing import IO, Any, Callable, Dict, FrozenSet, Iterator, List, NamedTuple, Optional, Tuple
 
 from .. import MendKind, Profile
-from .._documents.effective import Effective
+from .._documents.configuration import Configuration
 from .._documents.limits import MOST_SECONDS, NO_MEMORY, ended_by, limit_memory, limit_time
 from .._documents.started import started
 from .._fixes.fixing import why_left
 from .._readers import markdown_links, rst_links
-from .._readers.reading import LIST, Found, Reading, Unread, found_in
-from .._readers.source import Foreign, Link, Source
+from .._readers.reading import LIST, Reading, Unread, found_in
+from .._readers.source import Contents, Foreign, Link, Source
 from .._reports.checker import MOST_KEPT, Checker, Verdicts, Wrong
 from .._reports.ignoring import Ignoring
-from .._reports.selected import Selected
+from .._reports.rules import ALL
 from .editing import LinePlaces
 from .pieces import Pieces, Read, of_markdown, of_rst
 
@@ -42,14 +42,14 @@ class Asked(NamedTuple):
     text: str
     kind: str
     encoding: str
-    counts: Effective
+    counts: Configuration
 
 
 class Kept:
     """What is kept from one text to the next."""
 
     def __init__(self) -> None:
-        self._verdicts: Dict[Tuple[Profile, bool, Selected], Verdicts] = {}
+        self._verdicts: Dict[Tuple[Optional[Profile], Optional[bool], FrozenSet[str]], Verdicts] = {}
         self._fixes: Dict[Tuple[Any, ...], Fix] = {}
         self._read: Tuple[str, str, bool] = ("", "", False)
         self._reading = Reading()
@@ -61,19 +61,18 @@ class Kept:
 
     def reading(self, asked: Asked) -> Reading:
         """How a document is read. What the one that was checked last was read as is kept, until another one is."""
-        if self._read != (asked.name, asked.kind, asked.counts.gfm):
-            self._read = asked.name, asked.kind, asked.counts.gfm
-            is_mdx = asked.kind == "mdx"
-            piece = functools.partial(markdown_links.links_of, is_gfm=asked.counts.gfm, is_mdx=is_mdx)
+        is_gfm, is_mdx = bool(asked.counts.gfm), asked.kind == "mdx"
+        if self._read != (asked.name, asked.kind, is_gfm):
+            self._read = asked.name, asked.kind, is_gfm
+            piece = functools.partial(markdown_links.links_of, is_gfm=is_gfm, is_mdx=is_mdx)
             whole = functools.partial(piece, inlines=markdown_links.Inlines())
             markdown: Read = whole
             if not is_mdx:
                 # (an expression of MDX may have anything in it, empty lines too)
                 markdown = Pieces(of_markdown, piece, whole).read
             rst = Pieces(of_rst, rst_links.links_of, rst_links.links_of)
-            self._reading = Reading(asked.counts.gfm, markdown, rst.read)
+            self._reading = Reading(is_gfm, markdown, rst.read)
         return self._reading
-
 
     def fix(self, asked: Asked, link: Link, wrong: Wrong, checker: Checker, source: Source) -> "Fix":
         """What may be written in place of a link of a source. What is written for equal links is sought once."""
@@ -145,10 +144,10 @@ class Seen(NamedTuple):
 
 
 START = ((0, 0), (0, 0))
-"""The range of what is said of a text as a whole."""
+"""The range of a diagnostic on a text as a whole."""
 
 _MOST_SAID = 150
-"""How many code points are said of what failed."""
+"""How many code points a diagnostic has of what failed."""
 
 
 def unread(reason: str) -> Seen:
@@ -169,10 +168,10 @@ def _seen_in(asked: Asked, kept: Kept) -> Seen:
     links = 0
     try:
         for found in found_in(asked.text, asked.kind, kept.reading(asked)):
-            checker = asked.counts.checker(True, kept.verdicts(asked), asked.kind == LIST)
+            checker = Checker(asked.counts, True, kept.verdicts(asked), asked.kind == LIST)
             places = LinePlaces(found.source.text, asked.encoding)
             links += len(found.links)
-            ignoring = Ignoring(found.comments)
+            ignoring = Ignoring(found.comments, asked.counts.ignored)
             seen.mistakes.extend(_mistakes_in(asked, found, checker, (places, kept), ignoring))
             seen.remarks.extend(_remarks_on(asked, found, places, ignoring))
     except (Unread, Foreign) as reason:
@@ -182,10 +181,10 @@ def _seen_in(asked: Asked, kept: Kept) -> Seen:
     return seen._replace(links=links)
 
 
-def _remarks_on(asked: Asked, found: Found, places: LinePlaces, ignoring: Ignoring) -> Iterator[Remark]:
+def _remarks_on(asked: Asked, found: Contents, places: LinePlaces, ignoring: Ignoring) -> Iterator[Remark]:
     """What is said about a text, once its links were looked at."""
     yield from (Remark(START, it, NOTE) for it in found.notes)
-    for it in ignoring.remarks(asked.counts.selected.are_all() and found.broken is None):
+    for it in ignoring.remarks(asked.counts.selected == ALL and found.broken is None):
         at = places.position(it.offset)
         yield Remark((at, at), it.message, COMMENT)
     for lost in found.lost:
@@ -197,12 +196,12 @@ def _remarks_on(asked: Asked, found: Found, places: LinePlaces, ignoring: Ignori
 
 
 def _mistakes_in(
-    asked: Asked, found: Found, checker: Checker, seen: Tuple[LinePlaces, Kept], ignoring: Ignoring
+    asked: Asked, found: Contents, checker: Checker, seen: Tuple[LinePlaces, Kept], ignoring: Ignoring
 ) -> Iterator[Mistake]:
     """The links that are wrong, except those that are meant as they are."""
     for link in found.links:
         wrong, is_left_out = ignoring.wrong(checker, link)
-        if wrong is not None and not is_left_out and not asked.counts.leaves_out(link.text):
+        if wrong is not None and not is_left_out:
             places, kept = seen
             is_offered = wrong.mended is not None and wrong.mended.is_offered
             fix = kept.fix(asked, link, wrong, checker, found.source) if is_offered else Fix(None, False)
@@ -236,7 +235,7 @@ class Checking:
 
     def check(self, asked: Asked, is_superseded: Callable[[], bool]) -> Optional[Seen]:
         """What is wrong with a text, or nothing if it was superseded before that was known."""
-        process = self._started()
+        process = self.start()
         stdin, stdout = process.stdin, process.stdout
         assert stdin is not None and stdout is not None
         try:
@@ -256,16 +255,12 @@ class Checking:
                 continue
             return self._ended(None) if seen is None else seen
 
-    def _started(self) -> "subprocess.Popen[bytes]":
-        """The process, which is started again if it has ended."""
+    def start(self) -> "subprocess.Popen[bytes]":
+        """The process, which is started if there is none, as before the first text, and again if it has ended."""
         if self._process is None or self._process.poll() is not None:
             self.end()
             self._process = started(__name__)
         return self._process
-
-    def start(self) -> None:
-        """Starts the process, so that the first text doesn't wait for it."""
-        self._started()
 
     def is_started(self) -> bool:
         """Whether there is a process."""
@@ -290,25 +285,15 @@ class Checking:
 
 
 def _send(pipe: IO[bytes], value: Any) -> None:
-    """Sends a value: its length in eight bytes, and then itself, so that the reader knows where it ends."""
-    data = pickle.dumps(value, pickle.HIGHEST_PROTOCOL)
-    pipe.write(len(data).to_bytes(8, "big") + data)
+    """Sends a value."""
+    pickle.dump(value, pipe, pickle.HIGHEST_PROTOCOL)
     pipe.flush()
-
-
-def _received(pipe: IO[bytes]) -> Any:
-    """What was sent. Raises ``EOFError`` if nothing more comes."""
-    head = pipe.read(8)
-    data = pipe.read(int.from_bytes(head, "big")) if len(head) == 8 else b""
-    if len(head) < 8 or len(data) < int.from_bytes(head, "big"):
-        raise EOFError
-    return pickle.loads(data)
 
 
 def _answer(pipe: IO[bytes], answers: "queue.Queue[Optional[Seen]]") -> None:
     """Puts what the process answers, or nothing if it has ended."""
     try:
-        answers.put(_received(pipe))
+        answers.put(pickle.load(pipe))
     except (EOFError, OSError, ValueError, pickle.UnpicklingError):
         answers.put(None)
 
@@ -324,8 +309,8 @@ def serve() -> None:
     gc.disable()
     while True:
         try:
-            asked: Asked = _received(given)
-        except EOFError:
+            asked: Asked = pickle.load(given)
+        except (EOFError, pickle.UnpicklingError):
             return
         limit_time(MOST_SECONDS)
         try:

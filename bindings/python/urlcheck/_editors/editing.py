@@ -111,11 +111,6 @@ class LinePlaces:
         return line, units
 
 
-def is_text(value: Any) -> bool:
-    """Whether a client's value is a text."""
-    return isinstance(value, str)
-
-
 def encoding_for(offered: Any, columns: Optional[str]) -> str:
     """Which units a client counts: the first of those that it offers, UTF-16 if it offers none, or those that its user
     says it counts."""

@@ -17,7 +17,7 @@ LEAST = 2_000
 """How many code points a piece has at least, unless a title of reStructuredText comes after it."""
 
 _CUT = re.compile(r"\n[ \t\r]*\n(?=\S)")
-"""Where a block ends in which no other is nested: before a line that isn't indented, after an empty one."""
+"""The end of a block in which no other is nested: before a line that isn't indented, after an empty one."""
 
 
 class Pieces:
@@ -41,13 +41,12 @@ class Pieces:
         # (what a piece can't say by itself is said of the whole)
         if len(pieces) < 2 or any(it.broken is not None or it.lost for it in read.values()):
             return self._read_whole(source)
-        links: List[Link] = []
-        notes: Dict[str, None] = {}
+        whole = Contents(source)
         for start, text in pieces:
-            links += [_moved(it, start) for it in read[text].links]
-            notes.update(dict.fromkeys(read[text].notes))
-        comments = [it._replace(offset=it.offset + start) for start, text in pieces for it in read[text].comments]
-        return Contents(links, comments, None, tuple(notes))
+            whole.links += [_moved(it, start) for it in read[text].links]
+            whole.comments += [it._replace(offset=it.offset + start) for it in read[text].comments]
+            whole.notes |= read[text].notes
+        return whole
 
 
 def _moved(link: Link, by: int) -> Link:
@@ -67,7 +66,7 @@ _OPENED = re.compile(
 """What begins code, or a block of HTML, either of which may have empty lines."""
 
 _HTML_ENDS = {"!--": "-->", "?": "?>", "![cdata[": "]]>", "!": ">"}
-"""How such blocks of HTML end; those of elements by the end tag of one."""
+"""How such blocks of HTML end; blocks of elements end with the end tag of one."""
 
 _TAG_END = re.compile("</(?:script|pre|style|textarea)>", re.IGNORECASE)
 

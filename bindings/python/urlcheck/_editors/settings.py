@@ -4,33 +4,20 @@ import re
 from typing import Any, Dict, NamedTuple, Optional, Tuple
 
 from .. import BaseRefused, Profile, check
-from .._documents.configuration import Configuration
+from .._documents.configuration import NONE, Configuration
 
 SEVERITIES = {"error": 1, "warning": 2, "information": 3, "hint": 4}
 """The severities of the protocol."""
 
 
 class Options(NamedTuple):
-    """What a client's settings say; what they don't is the project's configuration's to say."""
+    """What a client's settings say."""
 
-    base: Optional[str] = None
-    profile: Optional[Profile] = None
-    ignored: Tuple["re.Pattern[str]", ...] = ()
-    gfm: Optional[bool] = None
-    is_empty_taken: Optional[bool] = None
+    given: Configuration = NONE
+    """What goes before a project's configuration."""
     severity: int = SEVERITIES["error"]
     wrong: Tuple[str, ...] = ()
     """What is wrong with them, in sentences."""
-
-    def given(self) -> Configuration:
-        """The same, as what goes before the project's configuration."""
-        return Configuration(
-            profile=self.profile,
-            base=self.base,
-            ignored=self.ignored,
-            gfm=self.gfm,
-            is_empty_taken=self.is_empty_taken,
-        )
 
 
 def options_of(given: Any) -> Options:
@@ -52,16 +39,14 @@ def options_of(given: Any) -> Options:
             patterns.append(re.compile(text))
         except (re.error, TypeError):
             wrong.append("not a regular expression: {}".format(text))
-    gfm, is_empty_taken = _flag(given, "gfm", wrong), _flag(given, "noEmpty", wrong)
-    return Options(
-        base=base,
+    said = Configuration(
         profile=profile,
+        base=base,
         ignored=tuple(patterns),
-        gfm=gfm,
-        is_empty_taken=is_empty_taken,
-        severity=severity or SEVERITIES["error"],
-        wrong=tuple(wrong),
+        gfm=_flag(given, "gfm", wrong),
+        is_empty_taken=_flag(given, "noEmpty", wrong),
     )
+    return Options(said, severity or SEVERITIES["error"], tuple(wrong))
 
 
 def _flag(given: Dict[str, Any], name: str, wrong: "list[str]") -> Optional[bool]:

@@ -8,11 +8,10 @@ import re
 from typing import Callable, Iterable, List, NamedTuple, Optional, Sequence, Tuple
 
 from .. import MendKind
-from .._readers.reading import Found
+from .._readers.source import Contents
 from .._reports.checker import Writing, Wrong
 from .._reports.names import Name
-from .difference import difference
-from .edits import Edit, edited, encoded, in_order
+from .edits import Edit, difference, edited, encoded, in_order
 
 _HOST = re.compile(r"(?:[A-Za-z][A-Za-z0-9+.-]*:[/\\]*|[/\\]{2,})(?:[^/\\?#@]*@)?([^/\\?#:]*)")
 """What a text with a host begins with, as parsers read it; its group is the host."""
@@ -24,7 +23,7 @@ _PASSED_OVER = str.maketrans("", "", "\t\n\r")
 """What parsers take out of a text."""
 
 
-Read = Callable[[bytes], Found]
+Read = Callable[[bytes], Contents]
 """What finds the links of a document."""
 
 
@@ -88,7 +87,7 @@ def digest_of(data: bytes) -> bytes:
     return hashlib.sha256(data).digest()
 
 
-def are_read_alike(before: Found, after: Found, edits: Sequence[Edit]) -> bool:
+def are_read_alike(before: Contents, after: Contents, edits: Sequence[Edit]) -> bool:
     """Whether the links that are read after these edits are those before them, but for the texts that were written."""
     written = {edit.start: edit.read for edit in edits}
     ends, shifts = _shifts(edits)
@@ -109,8 +108,8 @@ def _shifts(edits: Sequence[Edit]) -> Tuple[List[int], List[int]]:
 
 
 def fixed(
-    data: bytes, found: Found, texts: Iterable[Edit], read: Read, name: Optional[Name]
-) -> Optional[Tuple[Fixed, Found]]:
+    data: bytes, found: Contents, texts: Iterable[Edit], read: Read, name: Optional[Name]
+) -> Optional[Tuple[Fixed, Contents]]:
     """The document of these bytes, in which these links were found, after edits, and what is found in it then. There is
     none without edits, if a reader stopped, or if the links found then aren't the earlier ones with the texts of the
     edits. If it has a name, the difference is wanted."""

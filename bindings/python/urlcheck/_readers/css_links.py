@@ -3,11 +3,11 @@ package ``tinycss2``."""
 
 import re
 from itertools import dropwhile
-from typing import Any, Dict, Iterator, List, Match, NamedTuple, Optional
+from typing import Any, Dict, Iterator, List, Match, Optional
 
 from .comments import comments_of
 from .slots import Syntax, as_before
-from .source import Comment, Contents, Link, Lost, Source, point_of, read
+from .source import Contents, Link, Lost, Source, point_of, read
 
 _END = re.compile("\r\n|[\r\n\f]")
 """What ends a line of CSS."""
@@ -44,9 +44,9 @@ def links_of(source: Source, is_sheet: bool = True) -> Contents:
 
     starts = [0] + [it.end() for it in _END.finditer(source.text)]
     nodes = tinycss2.parse_component_value_list(source.text)
-    found = _Found([], [], [])
+    found = Contents(source)
     for node in _within(nodes):
-        _take(source, node, _place(source, node, starts), starts, found)
+        _take(node, starts, found)
     for number, node in enumerate(nodes) if is_sheet else ():
         if node.type == "at-keyword" and node.lower_value == "import":
             behind = nodes[number + 1 : number + 9]
@@ -54,15 +54,7 @@ def links_of(source: Source, is_sheet: bool = True) -> Contents:
             if after is not None and after.type == "string":
                 found.links.append(_string(source, _place(source, after, starts)))
     found.links.sort(key=lambda link: link.offset)
-    return Contents(found.links, found.comments, lost=tuple(found.lost))
-
-
-class _Found(NamedTuple):
-    """What is found so far."""
-
-    links: List[Link]
-    comments: List[Comment]
-    lost: List[Lost]
+    return found
 
 
 def _place(source: Source, node: Any, starts: List[int]) -> int:
@@ -71,8 +63,9 @@ def _place(source: Source, node: Any, starts: List[int]) -> int:
     return min(starts[min(line, len(starts)) - 1] + column - 1, len(source.text))
 
 
-def _take(source: Source, node: Any, at: int, starts: List[int], found: _Found) -> None:
-    """Takes the links of a node that begins there."""
+def _take(node: Any, starts: List[int], found: Contents) -> None:
+    """Takes the links of a node."""
+    source, at = found.source, _place(found.source, node, starts)
     if node.type == "comment":
         found.comments.extend(comments_of(node.value, at + 2))
     elif node.type == "url":

@@ -13,7 +13,7 @@ _READ = ("html", "xml", "css")
 """The kinds of documents that are read of a book."""
 
 
-class NoBook(ValueError):
+class NoBook(Exception):
     """Why a book can't be read."""
 
 
@@ -33,9 +33,5 @@ def documents_of(data: bytes) -> Iterator[Tuple[str, str, bytes]]:
                 if room < 0:
                     raise NoBook("holds more than {} MiB".format(MOST_UNPACKED >> 20))
                 yield entry.filename, kind, held
-    except (zipfile.BadZipFile, zipfile.LargeZipFile, EOFError, NotImplementedError, RuntimeError, OSError) as error:
-        raise NoBook("isn't a book that can be read: {}".format(error)) from None
-    except ValueError as error:
-        if isinstance(error, NoBook):
-            raise
+    except (zipfile.BadZipFile, zipfile.LargeZipFile, EOFError, RuntimeError, OSError, ValueError) as error:
         raise NoBook("isn't a book that can be read: {}".format(error)) from None

@@ -2,13 +2,12 @@
 links are the values that begin with a scheme and ``//``."""
 
 import re
-from typing import Iterator, List, Match, Optional, Tuple
+from typing import List, Match, Optional, Tuple
 
 from .slots import NOWHERE, Syntax, as_before
-from .source import Contents, Link, Lost, Written, point_of, read
+from .source import Link, Lost, Written, point_of, read
 
 _URL = re.compile(r"[A-Za-z][A-Za-z0-9+.-]*://")
-_LINE = re.compile(r"[^\n]*(?:\n|\Z)")
 _ENDS = {"---": re.compile(r"(?:---|\.\.\.)[ \t]*\r?(?:\n|\Z)"), "+++": re.compile(r"\+\+\+[ \t]*\r?(?:\n|\Z)")}
 
 _QUOTED = r"\"(?P<double>[^\"\\]*(?:\\.[^\"\\]*)*)\"|'(?P<single>[^']*(?:''[^']*)*)'"
@@ -50,7 +49,7 @@ _WRONG = "an escape that isn't one"
 _UNENDED = "a string or a list that doesn't end"
 
 
-def front_matter_of(text: str) -> Optional[Tuple[int, Contents]]:
+def front_matter_of(text: str) -> Optional[Tuple[int, "FrontMatter"]]:
     """Returns the end of a text's front matter, and its values. A first line that begins a text, and no mapping of
     YAML, is a thematic break."""
     mark = text[:3]
@@ -64,9 +63,9 @@ def front_matter_of(text: str) -> Optional[Tuple[int, Contents]]:
         return None
     if mark == "---" and not _is_mapping(text[begin:at]):
         return None
-    reader = _Reader(text, at)
+    reader = FrontMatter(text, at)
     (reader.read_yaml if mark == "---" else reader.read_toml)(begin)
-    return end.end(), Contents(reader.links, lost=tuple(reader.lost))
+    return end.end(), reader
 
 
 def _is_mapping(text: str) -> bool:
@@ -77,7 +76,7 @@ def _is_mapping(text: str) -> bool:
     return has_key and all(_OF_MAPPING.match(line) for line in lines)
 
 
-class _Reader:
+class FrontMatter:
     """Collects the links of values."""
 
     def __init__(self, text: str, end: int) -> None:

@@ -4,33 +4,17 @@ MathML."""
 
 import re
 from html.entities import html5
-from typing import Callable, Dict, FrozenSet, Iterator, List, Match, Optional, Set, Tuple
+from typing import Callable, Dict, FrozenSet, Iterator, List, Match, Optional, Tuple
 
 from . import css_links
 from .attributes import CANDIDATES, LISTS, NON_EMPTY, URLS
 from .comments import comments_of
 from .slots import AS_IT_IS, Syntax, as_before
-from .source import (
-    SPACES,
-    Asks,
-    Comment,
-    Contents,
-    Link,
-    Lost,
-    NamedBase,
-    Source,
-    Written,
-    base_of,
-    moved,
-    point_of,
-    read,
-    words_of,
-)
+from .source import SPACES, Asks, Contents, Link, NamedBase, Source, Written
+from .source import base_of, moved, point_of, read, words_of
 
-STYLES = frozenset(
-    "style fill stroke filter clip-path mask marker marker-start marker-mid marker-end cursor".split()
-)
-"""The attributes that have CSS: that of every element, and those of SVG whose value may be a ``url()``."""
+STYLES = frozenset("style fill stroke filter clip-path mask marker marker-start marker-mid marker-end cursor".split())
+"""The attributes that have CSS: ``style``, and SVG's whose value may be a ``url()``."""
 
 _TAKEN = {*URLS, *LISTS, *CANDIDATES, *STYLES}
 _KEPT = {*_TAKEN, "content", "http-equiv"}
@@ -84,19 +68,15 @@ def links_of(source: Source) -> Contents:
     """What is in an HTML document."""
     reader = _Reader(source)
     reader.read()
-    return Contents(reader.links, reader.comments, None, tuple(reader.notes), tuple(reader.lost))
+    return reader
 
 
-class _Reader:
+class _Reader(Contents):
     """Collects the links of the start tags. What has no end reaches to the document's end, as in the Standard's
     tokenizer; so nothing is read twice."""
 
     def __init__(self, source: Source) -> None:
-        self.links: List[Link] = []
-        self.comments: List[Comment] = []
-        self.notes: Set[str] = set()
-        self.lost: List[Lost] = []
-        self._source = source
+        super().__init__(source)
         self._text = source.text
         self._base: Optional[NamedBase] = None
 
@@ -165,23 +145,13 @@ class _Reader:
         ends = _RAW_END[tag].search(self._text, start)
         end = ends.start() if ends else len(self._text)
         if tag == "style":
-            self._take_sheet(start, end)
+            self.add(styles_in(self._text[start:end], self.source, lambda place: start + place), self._base)
         return end
-
-    def _take_sheet(self, start: int, end: int) -> None:
-        """Takes the links of a style sheet."""
-        self._take_styles(styles_in(self._text[start:end], self._source, lambda place: start + place))
-
-    def _take_styles(self, styles: Contents) -> None:
-        """Takes what is in styles."""
-        self.links += [link._replace(base=self._base) for link in styles.links]
-        self.notes.update(styles.notes)
-        self.lost += styles.lost
 
     def _take(self, tag: str, name: str, value: str, written: Written) -> None:
         """Takes the links of an attribute's value."""
         if name in STYLES:
-            self._take_styles(styles_in(value, self._source, written.place, written.syntax, False))
+            self.add(styles_in(value, self.source, written.place, written.syntax, False), self._base)
         elif has(URLS, name, tag):
             link = written.stripped(value, None if tag == "base" else self._base)
             if has(NON_EMPTY, name, tag):
@@ -221,14 +191,15 @@ def styles_in(
 ) -> Contents:
     """What is in a style sheet, or in an attribute with styles, that is a part of a source and is written there in a
     syntax."""
-    if not css_links.NEEDED.search(text):
-        return Contents([])
-    try:
-        found = css_links.links_of(Source(text), is_sheet)
-    except ImportError:
-        return Contents([], notes=(css_links.MISSING,))
-    lost = tuple(it._replace(offset=place_of(it.offset)) for it in found.lost)
-    return Contents([moved(it, source, place_of, outer) for it in found.links], lost=lost)
+    found = Contents(source)
+    if css_links.NEEDED.search(text):
+        try:
+            styles = css_links.links_of(Source(text), is_sheet)
+            found.links = [moved(it, source, place_of, outer) for it in styles.links]
+            found.lost = [it._replace(offset=place_of(it.offset)) for it in styles.lost]
+        except ImportError:
+            found.notes.add(css_links.MISSING)
+    return found
 
 
 def has(table: Dict[str, FrozenSet[str]], name: str, tag: str) -> bool:

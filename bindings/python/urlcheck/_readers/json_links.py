@@ -10,7 +10,7 @@ from typing import Any, Callable, Dict, Iterator, List, Match, Optional, Tuple
 from . import html_links, markdown_links
 from .comments import covered
 from .slots import Syntax
-from .source import Asks, Broken, Comment, Contents, Link, Lost, Source, Written, moved, read, text_of
+from .source import Asks, Broken, Contents, Link, Source, Written, moved, read, text_of
 
 _ESCAPE = re.compile(r"\\u[dD][89abAB][0-9a-fA-F]{2}\\u[dD][c-fC-F][0-9a-fA-F]{2}|\\u[0-9a-fA-F]{4}|\\.")
 """What stands for a code point in a string of JSON."""
@@ -28,7 +28,7 @@ _URLS = {
     "avatar": Asks.SOME,
 }
 """The members of JSON Feed 1.1 whose value is a URL, with what it has to be. The URL of an item may be missing, and is
-absolute; that of a hub and an attachment is absolute too."""
+absolute; the URLs of a hub and an attachment are absolute too."""
 
 
 _decoding: Any = json.decoder
@@ -115,37 +115,31 @@ def links_of_notebook(source: Source, is_gfm: bool) -> Contents:
     try:
         notebook = _parsed(source)
     except Broken as broken:
-        return Contents([], (), broken)
+        return Contents(source, broken=broken)
     if not isinstance(notebook, dict) or not isinstance(notebook.get("cells"), list):
         raise NoJson("isn't a notebook that can be read: it has no cells")
-    links: List[Link] = []
-    comments: List[Comment] = []
-    lost: List[Lost] = []
+    found = Contents(source)
     for number, cell in enumerate(notebook["cells"], 1):
         if isinstance(cell, dict) and cell.get("cell_type") == "markdown":
-            found = _of_cell(source, number, cell.get("source"), is_gfm)
-            links += found.links
-            comments += found.comments
-            lost += found.lost
-    return Contents(links, comments, lost=tuple(lost))
+            _take_cell(found, number, cell.get("source"), is_gfm)
+    return found
 
 
-def _of_cell(source: Source, number: int, given: Any, is_gfm: bool) -> Contents:
-    """What is in a cell, which is a string or a list of them."""
+def _take_cell(found: Contents, number: int, given: Any, is_gfm: bool) -> None:
+    """Takes what is in a cell, which is a string or a list of them."""
     texts = [it for it in (given if isinstance(given, list) else [given]) if isinstance(it, Text)]
     cell = Source("".join(texts))
     if not cell.text:
-        return Contents([])
-    place_of = _place_in(source, texts)
-    found = markdown_links.links_of(cell, is_gfm)
-    placed = {it: it._replace(offset=place_of(it.offset)) for it in found.comments}
-    links = []
-    for link in covered(cell, found.links, found.comments):
+        return
+    place_of = _place_in(found.source, texts)
+    inner = markdown_links.links_of(cell, is_gfm)
+    placed = {it: it._replace(offset=place_of(it.offset)) for it in inner.comments}
+    for link in covered(cell, inner.links, inner.comments):
         where = "cell {}, line {}".format(number, cell.position(link.offset)[0])
         about = tuple(placed[it] for it in link.comments)
-        links.append(moved(link, source, place_of, _STRING)._replace(within=where, comments=about))
-    lost = tuple(it._replace(offset=place_of(it.offset)) for it in found.lost)
-    return Contents(links, list(placed.values()), lost=lost)
+        found.links.append(moved(link, found.source, place_of, _STRING)._replace(within=where, comments=about))
+    found.comments += placed.values()
+    found.lost += [it._replace(offset=place_of(it.offset)) for it in inner.lost]
 
 
 def links_of_feed(source: Source) -> Contents:
@@ -153,10 +147,10 @@ def links_of_feed(source: Source) -> Contents:
     try:
         feed = _parsed(source)
     except Broken as broken:
-        return Contents([], (), broken)
+        return Contents(source, broken=broken)
     if not isinstance(feed, dict) or not ("items" in feed or "version" in feed):
         raise NoJson("isn't a JSON Feed: it has no items and no version")
-    return Contents(sorted(_of_feed(source, feed), key=lambda link: link.offset))
+    return Contents(source, sorted(_of_feed(source, feed), key=lambda link: link.offset))
 
 
 def _of_feed(source: Source, feed: Dict[str, Any]) -> Iterator[Link]:

@@ -20,6 +20,12 @@ KINDS: Dict[str, Tuple[str, ...]] = {
 }
 """The kinds, each with how the names of its documents end."""
 
+_LIKE_HTML = (
+    *("php", "phtml", "asp", "aspx", "jsp", "erb", "ejs", "hbs", "mustache", "liquid", "njk", "j2", "jinja", "jinja2"),
+    *("twig", "tmpl", "shtml", "vue", "svelte"),
+)
+"""How the names of templates of pages end, which are read only if they are to be."""
+
 NAMES = {"feed.json": "json-feed"}
 """The kinds by whole names, for names whose endings don't say the kind."""
 
@@ -67,6 +73,11 @@ PACKAGES: Dict[str, Package] = {
 def kind_of(name: str) -> Optional[str]:
     """The kind of a document of that name, if its name says so."""
     return NAMES.get(os.path.basename(name).lower()) or _BY_END.get(end_of(name))
+
+
+def is_like_html(name: str) -> bool:
+    """Whether a name's ending says that it is a template of a page of HTML."""
+    return end_of(name) in _LIKE_HTML
 
 
 def is_list(name: str) -> bool:

@@ -162,8 +162,8 @@ def _places(source: Source, text: str, begin: int) -> Callable[[int], int]:
 
 
 def _link(source: Source, text: str, begin: int, end: int, is_marked: bool) -> Link:
-    """The link that is there, with the pieces of one that is written otherwise. Within its markup it is what its author
-    wrote, with the spaces in its lines, and not what its reader makes of it."""
+    """The link between two places, in pieces if it is written there in another way. Within its markup it is what its
+    author wrote, with the spaces in its lines, and not what a reader makes of it."""
     written = source.text[begin:end]
     if is_marked and written != text:
         text = re.sub(r"\\(.)", r"\1", _BREAK.sub("", written))

@@ -11,7 +11,7 @@ from . import bare_links, html_links, mdx, spaced_links
 from .comments import comments_of
 from .destinations import BRACKETED, DESTINATION, ESCAPE, spaced_link, unescaped
 from .front_matter import front_matter_of
-from .source import Comment, Contents, Link, Lost, Source, read
+from .source import Contents, Link, Source, read
 
 
 class _Destination(str):
@@ -89,7 +89,7 @@ def links_of(
         reader.links += front[1].links
         reader.lost += front[1].lost
     reader.links.sort(key=lambda link: link.offset)
-    return Contents(reader.links, reader.comments, None, tuple(reader.notes), tuple(reader.lost))
+    return reader
 
 
 def _without(text: str, end: int) -> str:
@@ -97,12 +97,13 @@ def _without(text: str, end: int) -> str:
     return re.sub("[^\r\n]", " ", text[:end]) + text[end:]
 
 
-class _Reader:
+class _Reader(Contents):
     """Collects the links of the tokens."""
 
     def __init__(self, source: Source, is_gfm: bool, inlines: Inlines, code: Optional[mdx.Masked] = None) -> None:
         from markdown_it import MarkdownIt, helpers, rules_block, rules_inline
 
+        super().__init__(source)
         self.markdown: Any = MarkdownIt("commonmark")
         self.markdown.block.ruler.at("reference", _near(rules_block.reference))
         # (the inside of a block is read here, once for all blocks that are the same)
@@ -133,11 +134,6 @@ class _Reader:
         self.markdown.validateLink = lambda _: True
         self._parse = helpers.parseLinkDestination
         self._last: Tuple[str, int, Any] = ("", 0, None)
-        self.links: List[Link] = []
-        self.comments: List[Comment] = []
-        self.notes: Set[str] = set()
-        self.lost: List[Lost] = []
-        self._source = source
         # The same as the package reads it, place by place: there a carriage return ends a line too.
         text = re.sub("\r(?!\n)", "\n", code.text if code else source.text).replace("\0", "\ufffd")
         self._seen = source if text == source.text else Source(text)
@@ -207,7 +203,7 @@ class _Reader:
         for link in links:
             start = self._offset(line, content, link.offset)
             if start is not None:
-                is_verbatim = link.is_verbatim and self._source.text.startswith(link.text, start)
+                is_verbatim = link.is_verbatim and self.source.text.startswith(link.text, start)
                 pieces = link.pieces and tuple((begin, start + place - link.offset) for begin, place in link.pieces)
                 self.links.append(link._replace(offset=start, is_verbatim=is_verbatim, pieces=pieces))
 
@@ -224,7 +220,7 @@ class _Reader:
             line, title = definition["map"][0], definition["title"]
             # (a definition that leads nowhere is how Markdown has comments: `[//]: # (text)`)
             start = self._seen.offset(line + 1, 0)
-            comments = comments_of(title, self._source.text.find(title, start)) if definition["href"] == "#" else ()
+            comments = comments_of(title, self.source.text.find(title, start)) if definition["href"] == "#" else ()
             self.comments += comments
             if not comments:
                 self._take_destination(line, definition["href"])
@@ -238,14 +234,14 @@ class _Reader:
             self.links.append(Link(str(url), self._seen.offset(line + 1, 0), False))
             return
         value, written = read(url.raw, start, ESCAPE, unescaped, BRACKETED if url.is_bracketed else DESTINATION)
-        is_there = value == url and self._source.text.startswith(url.raw, start)
+        is_there = value == url and self.source.text.startswith(url.raw, start)
         self.links.append(written.link(value) if is_there else Link(str(url), start, False))
 
     def _take_html(self, line: int, content: str, html: str, at: int) -> None:
         """Takes the links of HTML that is at a place of a block's content. It is read without what nests the block,
         which may be within a tag of several lines."""
         found = html_links.links_of(Source(html))
-        self.notes.update(found.notes)
+        self.notes |= found.notes
         self.links += [self._moved(link, line, content, at) for link in found.links]
         for lost in found.lost:
             start = self._offset(line, content, at + lost.offset)
@@ -263,7 +259,7 @@ class _Reader:
         if len(pieces) < len(found):
             return link._replace(offset=self._seen.offset(line + 1, 0), is_verbatim=False, base=None, pieces=())
         offset = pieces[0][1]
-        is_verbatim = link.is_verbatim and self._source.text.startswith(link.text, offset)
+        is_verbatim = link.is_verbatim and self.source.text.startswith(link.text, offset)
         return link._replace(offset=offset, is_verbatim=is_verbatim, base=None, pieces=pieces)
 
     def _offset(self, line: int, content: str, at: int) -> Optional[int]:

@@ -4,12 +4,12 @@ import contextlib
 import gc
 import os
 import re
-from typing import Callable, Dict, Iterator, List, NamedTuple, Optional, Sequence, Tuple, Union
+from typing import Callable, Dict, Iterator, NamedTuple, Optional, Union
 
 from . import css_links, epub, html_links, json_links, markdown_links, rst_links, xml_links
 from .comments import covered
 from .kinds import PACKAGES
-from .source import Broken, Comment, Contents, Foreign, Link, Lost, Source, decoded, encoding_of, without_mark
+from .source import Broken, Contents, Foreign, Link, Source, decoded, remedy_of, without_mark
 
 MOST_BYTES = 32 * 1024 * 1024
 """How many bytes a document may have."""
@@ -19,6 +19,9 @@ LIST = "list"
 
 _GZIP = b"\x1f\x8b"
 """How a file begins that gzip wrote."""
+
+COMPRESSED = "is compressed: gzip -dc unpacks it, and - reads what that writes"
+"""Why such a file isn't read."""
 
 _LINE = re.compile("[^\r\n]+")
 
@@ -40,42 +43,24 @@ class Reading(NamedTuple):
     """How many bytes a document may have."""
 
 
-class Found(NamedTuple):
-    """What was found in a document, or in one of those that it holds."""
-
-    source: Source
-    links: List[Link]
-    comments: Sequence[Comment]
-    """The comments about the links, each of which has its own."""
-    broken: Optional[Broken] = None
-    """Why the reader stopped before the document's end, if it did."""
-    notes: Tuple[str, ...] = ()
-    """What the reader passed over."""
-    inner: str = ""
-    """The name of the document within the one that holds it, after a ``/``."""
-    lost: Tuple[Lost, ...] = ()
-    """The parts of it that couldn't be read."""
-
-
-def found_in(given: Union[bytes, str], kind: str, reading: Reading = Reading()) -> Iterator[Found]:
+def found_in(given: Union[bytes, str], kind: str, reading: Reading = Reading()) -> Iterator[Contents]:
     """What is found in a document of that kind, given by its bytes or by its text: once, or of one that holds others in
-    each of them. Raises ``Unread`` where it can't be read at all, and ``Foreign`` where its bytes aren't UTF-8. A byte
-    order mark at its start isn't a part of its first line; a surrogate of a text is read as ``?``."""
+    each of them; each link has the comments about it. Raises ``Unread`` where it can't be read at all, and ``Foreign``
+    where its bytes aren't UTF-8. A byte order mark at its start isn't a part of its first line; a surrogate of a text is
+    read as ``?``."""
     data = given if isinstance(given, bytes) else given.encode("utf-8", "replace")
     if len(data) > reading.most:
         raise Unread("has more than {} MiB".format(reading.most >> 20))
     if data.startswith(_GZIP):
-        raise Unread("is compressed: gzip -dc unpacks it, and - reads what that writes")
+        raise Unread(COMPRESSED)
     try:
         yield from _found_in_archive(data, reading) if kind == "epub" else [_found(data, kind, reading)]
     except ImportError:
         package = PACKAGES.get(kind)
         why = "is {}, which needs {}".format(package.kind, package.said()) if package else "has no reader"
         raise Unread(why) from None
-    except json_links.NoJson as no_json:
-        raise Unread(str(no_json)) from None
-    except epub.NoBook as no_book:
-        raise Unread(str(no_book)) from None
+    except (json_links.NoJson, epub.NoBook) as error:
+        raise Unread(str(error)) from None
     except (Unread, Foreign, MemoryError, RecursionError, SystemError):
         raise
     except Exception as error:
@@ -104,16 +89,16 @@ def prepare(kind: Optional[str]) -> None:
         gc.freeze()
 
 
-def _found(data: bytes, kind: str, reading: Reading) -> Found:
+def _found(data: bytes, kind: str, reading: Reading) -> Contents:
     """What is found in a document of that kind. Raises ``ImportError`` if its reader isn't installed."""
     try:
         source = decoded(data)
     except Foreign as foreign:
-        raise Foreign(foreign.before, encoding_of(data)) from None
+        raise Foreign(foreign.before, remedy_of(data)) from None
     found = _read(source, data, kind, reading)
     # (each cell of a notebook has its own comments)
-    links = found.links if kind == "notebook" else covered(source, found.links, found.comments)
-    return Found(source, links, found.comments, found.broken, found.notes, lost=found.lost)
+    found.links = found.links if kind == "notebook" else covered(source, found.links, found.comments)
+    return found
 
 
 def _read(source: Source, data: bytes, kind: str, reading: Reading) -> Contents:
@@ -123,7 +108,7 @@ def _read(source: Source, data: bytes, kind: str, reading: Reading) -> Contents:
     if kind == "notebook":
         return json_links.links_of_notebook(source, reading.gfm)
     if kind == LIST:
-        return Contents([Link(it.group(), it.start(), True) for it in _LINE.finditer(source.text)])
+        return Contents(source, [Link(it.group(), it.start(), True) for it in _LINE.finditer(source.text)])
     if kind in ("markdown", "mdx"):
         is_mdx = kind == "mdx"
         return reading.markdown(source) if reading.markdown else markdown_links.links_of(source, reading.gfm, None, is_mdx)
@@ -140,16 +125,16 @@ _ALONE: Dict[str, Callable[[Source], Contents]] = {
 """What reads the kinds of which nothing but the text is asked."""
 
 
-def _found_in_archive(data: bytes, reading: Reading) -> Iterator[Found]:
+def _found_in_archive(data: bytes, reading: Reading) -> Iterator[Contents]:
     """What is found in each document of a book. One that isn't read stops nothing: the next is."""
     for name, kind, held in epub.documents_of(data):
         try:
             found = _found(held, kind, reading)
         except Foreign as foreign:
-            before = foreign.before
-            found = Found(before, [], (), Broken(len(before.text), str(foreign)))
+            found = Contents(foreign.before, broken=Broken(len(foreign.before.text), str(foreign)))
         except ImportError:
             # (only a style sheet needs a package; the rest of the book is read)
             has_links = css_links.NEEDED.search(held.decode("latin-1"))
-            found = Found(Source(""), [], (), notes=(css_links.MISSING,) if has_links else ())
-        yield found._replace(inner=name)
+            found = Contents(Source(""), notes={css_links.MISSING} if has_links else set())
+        found.inner = name
+        yield found

@@ -2,9 +2,10 @@
 know, such as Sphinx's, are read through."""
 
 import contextlib
+import functools
 import importlib
 import re
-from typing import Any, Dict, Iterable, Iterator, List, NamedTuple, Optional, Set, Tuple
+from typing import Any, Dict, Iterable, Iterator, List, Set, Tuple
 
 from .comments import comments_of
 from .html_links import links_of as links_of_html
@@ -27,7 +28,7 @@ _SETTINGS = {
     "input_encoding": "unicode",
     "line_length_limit": 1 << 20,
 }
-"""Nothing but the document is read, and nothing is said."""
+"""Nothing but the document is read, and docutils reports nothing."""
 
 _LONG = re.compile(r"[^\n]{%d,}" % ((1 << 20) + 1))
 """A line for which docutils would read nothing of a document."""
@@ -51,32 +52,37 @@ _CODE = frozenset(
 def links_of(source: Source) -> Contents:
     """What is in a document. Raises ``ImportError`` if ``docutils`` isn't installed."""
     core: Any = importlib.import_module("docutils.core")
-    nodes: Any = importlib.import_module("docutils.nodes")
-    notes: Set[str] = set()
-    with _read_through(notes):
+    found = Contents(source)
+    with _read_through(found.notes):
         text = _LONG.sub("", source.text)
         tree = core.publish_doctree(text, "<text>", settings_overrides=_SETTINGS)
     literals = Literals()
     literals.put("", source)
-    links: List[Link] = []
-    for said in _said(tree):
-        if said.markup is None:
-            found = links_of_raw(literals, "", said.line, said.text)
-        else:
-            found = found_once(literals, "", said.line, said.text, said.markup)
+    for node in tree.findall():
+        links: Iterable[Tuple[Link, bool]] = ()
+        if isinstance(node, nodes().raw) and "html" in node.get("format", "").split():
+            links = links_of_raw(literals, "", _line(node), node.astext())
+        elif is_link(node):
+            links = found_once(literals, "", _line(node), link_of(node), markup_of(node))
         # (what isn't written, as what :rfc: makes, isn't the author's)
-        links += [link for link, is_there in found if is_there]
-    links.sort(key=lambda link: link.offset)
-    lost = [Lost(it.start(), "a line of more than a MiB") for it in _LONG.finditer(source.text)]
-    lost += _dropped(source, tree.findall(nodes.system_message))
-    return Contents(links, comments_in(source, tree.findall(nodes.comment)), None, tuple(notes), tuple(sorted(lost)))
+        found.links += [link for link, is_there in links if is_there]
+    found.links.sort(key=lambda link: link.offset)
+    found.comments = comments_in(source, tree.findall(nodes().comment))
+    found.lost = [Lost(it.start(), "a line of more than a MiB") for it in _LONG.finditer(source.text)]
+    found.lost = sorted([*found.lost, *_dropped(source, tree.findall(nodes().system_message))])
+    return found
+
+
+@functools.lru_cache(None)
+def nodes() -> Any:
+    """The module with docutils's nodes."""
+    return importlib.import_module("docutils.nodes")
 
 
 def _dropped(source: Source, messages: Iterable[Any]) -> Iterator[Lost]:
     """The blocks that docutils couldn't read, by its messages. One of code has no links."""
-    nodes: Any = importlib.import_module("docutils.nodes")
     for message in messages:
-        blocks = [it.astext() for it in message.children if isinstance(it, nodes.literal_block)]
+        blocks = [it.astext() for it in message.children if isinstance(it, nodes().literal_block)]
         directive = _DIRECTIVE.match(blocks[0]) if blocks else None
         is_code = directive is not None and directive[1] in (*_CODE, "code", "math")
         is_empty = directive is not None and not blocks[0][directive.end() :].strip()
@@ -103,36 +109,14 @@ def comments_in(source: Source, nodes: Iterable[Any]) -> List[Comment]:
     return comments
 
 
-class _Said(NamedTuple):
-    """What a node says: a link, or HTML."""
-
-    text: str
-    line: int
-    """The line from which on it is."""
-    markup: Optional[str]
-    """How it is written, if that is known; none for HTML."""
-
-
-def _said(tree: Any) -> Iterator[_Said]:
-    """The links and the HTML of a document's nodes."""
-    nodes: Any = importlib.import_module("docutils.nodes")
-    for node in tree.findall():
-        line = _line(node)
-        if isinstance(node, nodes.raw) and "html" in node.get("format", "").split():
-            yield _Said(node.astext(), line, None)
-        elif is_link(node):
-            yield _Said(link_of(node), line, markup_of(node))
-
-
 def is_link(node: Any) -> bool:
     """Whether a node has a link that is written where the node is. One by a name is written where that is defined."""
-    nodes: Any = importlib.import_module("docutils.nodes")
-    if isinstance(node, nodes.target):
+    if isinstance(node, nodes().target):
         # (an embedded URL has its reference's place)
-        return bool(node.get("refuri")) and not isinstance(node.parent, nodes.TextElement)
-    if isinstance(node, nodes.reference):
+        return bool(node.get("refuri")) and not isinstance(node.parent, nodes().TextElement)
+    if isinstance(node, nodes().reference):
         return bool(node.get("refuri")) and not node.resolved and node["refuri"] != "mailto:" + node.astext()
-    return isinstance(node, nodes.image)
+    return isinstance(node, nodes().image)
 
 
 def link_of(node: Any) -> str:
@@ -148,11 +132,10 @@ _OPTION = re.compile(r"\n\s*:(?!:)")
 def markup_of(node: Any) -> str:
     """The markup of such a node, in which its link is looked for, or nothing if docutils doesn't keep it. That of an
     image ends before its options; an image that is a link has no markup of its own but the option ``:target:``."""
-    nodes: Any = importlib.import_module("docutils.nodes")
     markup: str = node.rawsource
-    if isinstance(node, nodes.image):
+    if isinstance(node, nodes().image):
         return _OPTION.split(markup)[0]
-    if not markup and isinstance(node, nodes.reference) and node.children and isinstance(node[0], nodes.image):
+    if not markup and isinstance(node, nodes().reference) and node.children and isinstance(node[0], nodes().image):
         option = ":target:" + node[0].rawsource.partition(":target:")[2]
         return _OPTION.split(option)[0]
     return markup
@@ -228,14 +211,12 @@ def _read_through(notes: Set[str]) -> Iterator[None]:
 
 def _role(name: str, raw: str, text: str, *_: Any, **__: Any) -> Any:
     """A role that isn't known: its text, or a link if the text says where it leads."""
-    nodes: Any = importlib.import_module("docutils.nodes")
     found = _TARGET.search(text)
-    return [nodes.reference(raw, text, refuri=found[1]) if found else nodes.inline(raw, text)], []
+    return [nodes().reference(raw, text, refuri=found[1]) if found else nodes().inline(raw, text)], []
 
 
 def _through() -> Any:
     """A directive that isn't known: each option is taken, and argument and content are read, unless that is code."""
-    nodes: Any = importlib.import_module("docutils.nodes")
     rst: Any = importlib.import_module("docutils.parsers.rst")
 
     class Options(Dict[str, Any]):
@@ -257,12 +238,12 @@ def _through() -> Any:
 
         def run(self) -> List[Any]:
             """What it holds."""
-            held = nodes.container()
+            held = nodes().container()
             held.line = self.lineno
             if self.name not in _CODE:
                 if self.arguments:
                     read, _ = self.state.inline_text(self.arguments[0], self.lineno)
-                    held += nodes.paragraph("", "", *read)
+                    held += nodes().paragraph("", "", *read)
                 self.state.nested_parse(self.content, self.content_offset, held)
             return [held]
 

@@ -5,7 +5,8 @@ import codecs
 import enum
 import re
 import sys
-from typing import Callable, Iterator, List, Match, NamedTuple, Optional, Pattern, Sequence, Tuple
+from dataclasses import dataclass, field
+from typing import Callable, Iterator, List, Match, NamedTuple, Optional, Pattern, Set, Tuple
 
 from .slots import AS_IT_IS, Slot, Syntax
 
@@ -45,7 +46,7 @@ class Comment(NamedTuple):
     text: str
     """What it says, without the spaces around it."""
     offset: int
-    """Where its text begins in the source, in code points from 0."""
+    """The place in the source at which its text begins, in code points from 0."""
     line_feeds: int = 0
     """How many line feeds it has."""
 
@@ -56,7 +57,7 @@ class Link(NamedTuple):
     text: str
     """The link, without the spaces around it, and with character references read."""
     offset: int
-    """Where it begins in the source, in code points from 0."""
+    """The place in the source at which it begins, in code points from 0."""
     is_verbatim: bool
     """Whether it is in the source as it is, so that a place within it is one of the source."""
     base: Optional[NamedBase] = None
@@ -66,7 +67,7 @@ class Link(NamedTuple):
     asks: Asks = Asks.REFERENCE
     """What its format requires of it."""
     within: str = ""
-    """Where it is within the document besides, as a cell of a notebook and its line."""
+    """Its place in more detail, such as a cell of a notebook and its line."""
     comments: Tuple[Comment, ...] = ()
     """The comments that are about it."""
     syntax: Syntax = AS_IT_IS
@@ -91,7 +92,7 @@ class Link(NamedTuple):
 
 
 Pieces = Tuple[Tuple[int, int], ...]
-"""Where a text is in its source if it isn't written there as it is read: for each piece of it, where it begins in the
+"""The places of a text in its source if it isn't written there as it is read: for each piece of it, where it begins in the
 text and in the source. The first begins at 0."""
 
 
@@ -196,7 +197,7 @@ class Lost(NamedTuple):
     """A part of a document that its reader can't read, so that links in it aren't found."""
 
     offset: int
-    """Where it begins in the source, in code points from 0."""
+    """The place in the source at which it begins, in code points from 0."""
     what: str
     """What it is, or why."""
 
@@ -210,18 +211,28 @@ class Broken(ValueError):
         self.reason = reason
 
 
-class Contents(NamedTuple):
-    """What a reader finds in a text."""
+@dataclass
+class Contents:
+    """What its reader finds in a text."""
 
-    links: List[Link]
-    comments: Sequence[Comment] = ()
+    source: "Source"
+    links: List[Link] = field(default_factory=list)
+    comments: List[Comment] = field(default_factory=list)
     """The comments about the links."""
     broken: Optional[Broken] = None
     """Why the reader stopped before the text's end, if it did."""
-    notes: Tuple[str, ...] = ()
+    notes: Set[str] = field(default_factory=set)
     """What the reader passed over."""
-    lost: Tuple[Lost, ...] = ()
+    lost: List[Lost] = field(default_factory=list)
     """The parts that it couldn't read."""
+    inner: str = ""
+    """The name of the document within the one that holds it, after a ``/``."""
+
+    def add(self, inner: "Contents", base: Optional[NamedBase]) -> None:
+        """Takes what is in a text of another syntax within this one, against a base unless that text names one."""
+        self.links += [link._replace(base=link.base or base) for link in inner.links]
+        self.notes |= inner.notes
+        self.lost += inner.lost
 
 
 class Source:
@@ -254,14 +265,14 @@ class Source:
 
 
 class Foreign(ValueError):
-    """That a text isn't UTF-8 after its longest beginning that is, and the encoding that it names, if it does."""
+    """That a text isn't UTF-8 after its longest beginning that is, and what makes it so, if that is known."""
 
-    def __init__(self, before: Source, encoding: Optional[str] = None) -> None:
-        super().__init__("this isn't UTF-8" + (_REMEDY.format(encoding) if encoding else ""))
+    def __init__(self, before: Source, remedy: str = "") -> None:
+        super().__init__("this isn't UTF-8" + remedy)
         self.before = before
 
 
-_REMEDY = ", and the document names {0}: iconv -f {0} -t UTF-8 makes it UTF-8, and - reads what that writes"
+_REMEDY = ": iconv -f {0} -t UTF-8 makes it UTF-8, and - reads what that writes"
 
 _ENCODING = re.compile(
     rb"""\A<\?xml[^>]*?\sencoding\s*=\s*["']([\w.:-]{1,40})["']|"""
@@ -281,6 +292,13 @@ def encoding_of(data: bytes) -> Optional[str]:
     found = _ENCODING.search(data[:_MOST_BEFORE_ENCODING])
     name = (found[1] or found[2]).decode("ascii") if found else ""
     return name if name.lower() not in ("", "utf-8", "utf8") else None
+
+
+def remedy_of(data: bytes) -> str:
+    """What makes a document UTF-8 that isn't: by the encoding that it names, or if it may be Latin-1."""
+    name = encoding_of(data)
+    said = ", and the document names " + name if name else "; if it is Latin-1"
+    return said + _REMEDY.format(name or "ISO-8859-1")
 
 
 def without_mark(data: bytes) -> bytes:

@@ -3,52 +3,17 @@ and the formats of ``xml_names``, which has the tables of elements and attribute
 
 import re
 from itertools import accumulate
-from typing import Dict, List, NamedTuple, Optional, Set, Tuple
+from typing import Dict, List, NamedTuple, Optional, Tuple
 from xml.parsers import expat
 
 from . import attributes, html_links
 from .comments import comments_of
 from .slots import AS_IT_IS
-from .source import (
-    SPACES,
-    Asks,
-    Broken,
-    Comment,
-    Contents,
-    Link,
-    Lost,
-    NamedBase,
-    Pieces,
-    Source,
-    Written,
-    base_of,
-    moved,
-    read,
-    words_of,
-)
-from .xml_names import (
-    APPSTREAM,
-    ATTRIBUTES,
-    CATALOG,
-    HTML_TEXTS,
-    KNOWN,
-    LIKE_LINKS,
-    LIKE_TEXTS,
-    NAMING_ATTRIBUTES,
-    NAMING_TEXTS,
-    NOWHERE,
-    OF_ANY_ELEMENT,
-    OF_PAGES,
-    POM,
-    QUALIFIED,
-    SVG,
-    TEXTS,
-    TYPED_TEXTS,
-    VOCABULARIES,
-    XHTML,
-    XML,
-    Name,
-)
+from .source import SPACES, Asks, Broken, Contents, Link, NamedBase, Pieces, Source, Written
+from .source import base_of, moved, read, words_of
+from .xml_names import APPSTREAM, ATTRIBUTES, CATALOG, HTML_TEXTS, KNOWN, LIKE_LINKS, LIKE_TEXTS, NAMING_ATTRIBUTES
+from .xml_names import NAMING_TEXTS, NOWHERE, OF_ANY_ELEMENT, OF_PAGES, POM, QUALIFIED, SVG, TEXTS, TYPED_TEXTS
+from .xml_names import VOCABULARIES, XHTML, XML, Name
 from .xml_texts import ATTRIBUTE, MARKUP, TEXT
 
 MOST_DEPTH = 10_000
@@ -98,22 +63,23 @@ _ATTRIBUTE = re.compile(r"\s+(?P<name>[^\s=]+)\s*=\s*(?:\"(?P<double>[^\"]*)\"|'
 def links_of(source: Source, data: bytes) -> Contents:
     """What is in an XML document, given by its text and its bytes."""
     reader = _Reader(source, data)
-    broken = None
     try:
         reader.parser.Parse(data, True)
     except expat.ExpatError as error:
-        broken = reader.failed(expat.ErrorString(error.code))
+        reader.broken = reader.failed(expat.ErrorString(error.code))
     except Broken as stopped:
-        broken = stopped
-    is_likely = not reader.is_known and broken is None
-    links, notes = (reader.likely, (UNKNOWN,)) if is_likely else ([], ())
-    return Contents(reader.links + links, reader.comments, broken, (*reader.notes, *notes), tuple(reader.lost))
+        reader.broken = stopped
+    if not reader.is_known and reader.broken is None:
+        reader.links += reader.likely
+        reader.notes.add(UNKNOWN)
+    return reader
 
 
-class _Reader:
+class _Reader(Contents):
     """Collects the links of the elements."""
 
     def __init__(self, source: Source, data: bytes) -> None:
+        super().__init__(source)
         # The document is UTF-8, whatever it says of itself.
         self.parser = expat.ParserCreate("utf-8", " ")
         self.parser.ordered_attributes = True
@@ -125,9 +91,6 @@ class _Reader:
         self.parser.CommentHandler = self._comment
         self.parser.ProcessingInstructionHandler = self._instruction
         self.parser.EntityDeclHandler = self._entity
-        self.links: List[Link] = []
-        self.comments: List[Comment] = []
-        self._source = source
         self._data = data
         # (code points and bytes are the same places in a document of ASCII)
         self._is_ascii = len(data) == len(source.text)
@@ -142,8 +105,6 @@ class _Reader:
         self.is_known = False
         # What are likely links, if none is.
         self.likely: List[Link] = []
-        self.notes: Set[str] = set()
-        self.lost: List[Lost] = []
         # The text of the element that is being read, if it has links: its pieces with their places.
         self._taking = _Taking()
         self._began = 0
@@ -152,9 +113,9 @@ class _Reader:
     def failed(self, reason: str) -> Broken:
         """Why the parser stopped. (Of a document that ends within an element it says that it has found none.)"""
         is_within = reason == expat.errors.XML_ERROR_NO_ELEMENTS and len(self._bases) > 1
-        return self.broken("the document ends within an element" if is_within else reason)
+        return self._stopped("the document ends within an element" if is_within else reason)
 
-    def broken(self, reason: str) -> Broken:
+    def _stopped(self, reason: str) -> Broken:
         """Why the document can't be read from here on. (The parser's own lines end with a carriage return too.)"""
         return Broken(self._offset(), reason)
 
@@ -173,7 +134,7 @@ class _Reader:
     def _entity(self, *_: object) -> None:
         """Stops at a declared entity: its text has no place in the document, and a few of them may grow to any
         length."""
-        raise self.broken("an entity is declared, but only the five of XML are expanded")
+        raise self._stopped("an entity is declared, but only the five of XML are expanded")
 
     def _comment(self, data: str) -> None:
         """Takes a comment, which may say that links are left out."""
@@ -182,10 +143,10 @@ class _Reader:
     def _instruction(self, target: str, data: str) -> None:
         """Takes the link of a style sheet's instruction before the outermost element; further down it isn't one."""
         start = self._offset()
-        end = self._source.text.find("?>", start)
-        found = _TARGET.match(self._source.text, start, end)
+        end = self.source.text.find("?>", start)
+        found = _TARGET.match(self.source.text, start, end)
         while found and target == "xml-stylesheet":
-            found = _ATTRIBUTE.match(self._source.text, found.end(), end)
+            found = _ATTRIBUTE.match(self.source.text, found.end(), end)
             if found and found["name"] == "href":
                 # (each reference of XML is one of HTML)
                 kind = found.lastgroup or "double"
@@ -195,7 +156,7 @@ class _Reader:
     def _start(self, name: str, attributes: List[str]) -> None:
         """Begins an element. The outermost one says which names are known, if its own has no namespace."""
         if len(self._bases) > MOST_DEPTH:
-            raise self.broken("more than {} elements are within one another".format(MOST_DEPTH))
+            raise self._stopped("more than {} elements are within one another".format(MOST_DEPTH))
         element = _split(name)
         if len(self._bases) == 1:
             self.parser.ProcessingInstructionHandler = None
@@ -236,8 +197,8 @@ class _Reader:
                 self.is_known = True
                 self._take(element, name[1], value, written, base)
             elif _is_style(element, name):
-                styles = html_links.styles_in(value, self._source, written.place, written.syntax, False)
-                self._take_styles(styles, self._of_element(element, base))
+                styles = html_links.styles_in(value, self.source, written.place, written.syntax, False)
+                self.add(styles, self._of_element(element, base))
             elif not self.is_known and name[0] == "" and name[1] in LIKE_LINKS and _SCHEME.match(value.lstrip(SPACES)):
                 self.likely.append(written.stripped(value, base))
             elif is_meta and name == ("", "content") and _is_refresh(names, values):
@@ -251,8 +212,9 @@ class _Reader:
     def _take(self, element: Name, name: str, value: str, written: Written, base: Optional[NamedBase]) -> None:
         """Takes the links of an attribute's value."""
         if (element, name) == ((XHTML, "base"), "href"):
-            # (which is relative to the document's address, whatever is around it)
-            self._take_base(written.stripped(value))
+            # (which is relative to the document's address, whatever is around it, and of which the first counts)
+            self.links.append(written.stripped(value))
+            self._page_base = self._page_base or base_of(self.links[-1].text)
             return
         base = self._of_element(element, base)
         if element[0] == XHTML and html_links.has(attributes.LISTS, name, element[1]):
@@ -264,22 +226,16 @@ class _Reader:
             asks = Asks.SOME if is_some else Asks.REFERENCE
             self.links.append(written.stripped(value, base)._replace(asks=asks))
 
-    def _take_base(self, link: Link) -> None:
-        """Takes what a ``base`` of XHTML says: the first one counts."""
-        self.links.append(link)
-        if self._page_base is None:
-            self._page_base = base_of(link.text)
-
     def _places(self, start: int, values: List[str]) -> List[Written]:
         """Returns the places of the values of the start tag there, except for namespaces."""
         places: List[Written] = []
-        name = _NAME.match(self._source.text, start)
-        found = name and _ATTRIBUTE.match(self._source.text, name.end())
+        name = _NAME.match(self.source.text, start)
+        found = name and _ATTRIBUTE.match(self.source.text, name.end())
         while found:
             if found["name"] != "xmlns" and not found["name"].startswith("xmlns:"):
                 kind = found.lastgroup or "double"
                 places.append(_written(found[kind], found.start(kind), values[len(places)]))
-            found = _ATTRIBUTE.match(self._source.text, found.end())
+            found = _ATTRIBUTE.match(self.source.text, found.end())
         return places
 
     def _characters(self, data: str) -> None:
@@ -296,7 +252,7 @@ class _Reader:
         if not pieces and self._taking.asks is Asks.ABSOLUTE:
             # (what has no content is nowhere: then the element's own place is told)
             end = self._offset()
-            pieces = [("", self._began if self._source.text.startswith("/>", end - 2) else end)]
+            pieces = [("", self._began if self.source.text.startswith("/>", end - 2) else end)]
         if not pieces:
             return
         value = "".join(piece for piece, _ in pieces)
@@ -306,11 +262,11 @@ class _Reader:
             self._take_html(value, written, base)
             return
         if self._taking.is_style:
-            styles = html_links.styles_in(value, self._source, written.place, TEXT)
-            self._take_styles(styles, self._page_base if base is None else base)
+            styles = html_links.styles_in(value, self.source, written.place, TEXT)
+            self.add(styles, self._page_base if base is None else base)
             return
         link = written.stripped(value, base)._replace(asks=self._taking.asks)
-        if self._source.text.startswith(link.text, link.offset):
+        if self.source.text.startswith(link.text, link.offset):
             # (in a CDATA section nothing is a reference)
             is_cdata = MARKUP.search(link.text) is not None
             link = link._replace(is_verbatim=True, pieces=(), syntax=AS_IT_IS if is_cdata else TEXT)
@@ -326,16 +282,9 @@ class _Reader:
         if "<" not in value:
             return
         html = html_links.links_of(Source(value))
-        self.notes.update(html.notes)
-        self.lost += [it._replace(offset=written.place(it.offset)) for it in html.lost]
-        found = [moved(link, self._source, written.place, TEXT) for link in html.links]
-        self.links += [link._replace(base=link.base or base) for link in found]
-
-    def _take_styles(self, styles: Contents, base: Optional[NamedBase]) -> None:
-        """Takes what is in styles."""
-        self.links += [link._replace(base=base) for link in styles.links]
-        self.notes.update(styles.notes)
-        self.lost += styles.lost
+        html.lost = [it._replace(offset=written.place(it.offset)) for it in html.lost]
+        html.links = [moved(link, self.source, written.place, TEXT) for link in html.links]
+        self.add(html, base)
 
 
 _ICONS = {(APPSTREAM, "icon"), (CATALOG, "icon")}

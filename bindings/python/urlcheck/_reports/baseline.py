@@ -9,12 +9,11 @@ import hashlib
 import os
 from collections import Counter
 from typing import Counter as Counts
-from typing import Dict, Iterable, Iterator, List, NamedTuple, Optional, Set, Tuple
+from typing import Dict, FrozenSet, Iterable, Iterator, List, NamedTuple, Optional, Set, Tuple
 
 from .._streams import named
 from .names import Name
 from .rules import NAMES
-from .selected import Selected
 
 _FIRST = "# urlcheck baseline 1: faults that are known, one a line"
 """What a baseline begins with."""
@@ -80,7 +79,7 @@ class Compared:
     def __init__(self, known: Dict[str, str]) -> None:
         self._known = known
         self._met: Set[str] = set()
-        self._whole: Dict[str, Selected] = {}
+        self._whole: Dict[str, FrozenSet[str]] = {}
         self._folders: List[str] = []
         self.new: List[Known] = []
         """The faults that it hasn't, if they are counted."""
@@ -89,7 +88,7 @@ class Compared:
         """Takes known faults that are there."""
         self._met.update(fingerprints)
 
-    def has_read(self, name: Name, selected: Selected) -> None:
+    def has_read(self, name: Name, selected: FrozenSet[str]) -> None:
         """Takes that a document was read to its end, and which rules were reported of it."""
         if self._known:
             self._whole[name.in_baseline()] = selected
@@ -107,7 +106,7 @@ class Compared:
         places = [(name, rule, _there(name)) for name, rule in _documents_of(said)]
         for _, rule, file in places:
             if file is not None:
-                return file in self._whole and self._whole[file].has(rule)
+                return file in self._whole and rule in self._whole[file]
         return any(_is_below(name, folder) for name, *_ in places[:1] for folder in self._folders)
 
 

@@ -2,13 +2,15 @@
 
 import re
 from dataclasses import replace
-from typing import Dict, FrozenSet, List, NamedTuple, Optional, Protocol, Tuple, Union
+from typing import Dict, FrozenSet, List, NamedTuple, Optional, Tuple, Union
 
-from .. import Base, BaseRefused, Mended, Profile, Refused, Region, Violation, check, mend, message, resolve, violations
+from .. import Base, BaseRefused, Mended, Refused, Region, Violation
+from .. import check, mend, message, resolve, violations
+from .._documents.configuration import Configuration
 from .._readers.source import Asks, Link, NamedBase, Source
+from .columns import Places
 from .report import Reported
-from .rules import EMPTY, OF_ASKS, OF_FORMATS, address_of
-from .selected import Selected
+from .rules import OF_ASKS, OF_FORMATS, address_of
 
 SOMEWHERE = "https://example.com/"
 """What a reference is checked against if neither the document nor the caller names a base."""
@@ -31,15 +33,6 @@ _RELATIVE = re.compile(r"(?:https?|wss?|ftp|file):(?![/\\]{2})", re.IGNORECASE)
 """The beginning of a text that is relative to a base of its own scheme, and to no other."""
 
 
-class Positions(Protocol):
-    """Says where a place of a document is."""
-
-    source: Source
-
-    def position(self, offset: int) -> Tuple[int, int]:
-        """The line and the column of a place."""
-
-
 class Wrong(NamedTuple):
     """What is wrong with a text, wherever it is."""
 
@@ -53,7 +46,7 @@ class Writing(NamedTuple):
     """What may be written in place of a link in its document."""
 
     start: int
-    """Where the link is written there, from place to place in code points from 0."""
+    """The first place of the link there, in code points from 0; ``end`` is after its last."""
     end: int
     text: str
     """What is to stand there."""
@@ -72,26 +65,24 @@ _NONE: FrozenSet[str] = frozenset()
 
 
 class Checker:
-    """Checks links against the base of their document."""
+    """Checks links against the base of their document, by the configuration that counts for it."""
 
     def __init__(
         self,
-        base: Optional[str],
-        profile: Profile,
+        counts: Configuration,
         has_mended: bool,
-        is_empty_taken: bool = False,
         verdicts: Optional[Verdicts] = None,
         is_of_lists: bool = False,
-        selected: Selected = Selected(),
         wording: str = "arguments",
     ) -> None:
+        self._is_base_known = counts.base is not None
+        self._profile = counts.profile
         # (the lines of a list have no base but the caller's)
-        self._outer = None if is_of_lists and base is None else Base(base or SOMEWHERE, profile)
-        self._is_base_known = base is not None
-        self._profile = profile
+        is_alone = is_of_lists and not self._is_base_known
+        self._outer = None if is_alone else Base(counts.base or SOMEWHERE, self._profile)
         self._has_mended = has_mended
-        self._is_empty_taken = is_empty_taken
-        self._selected = selected
+        self._is_empty_taken = bool(counts.is_empty_taken)
+        self._selected = counts.selected
         self._wording = wording
         self._bases: Dict[NamedBase, Base] = {}
         self._verdicts: Verdicts = {} if verdicts is None else verdicts
@@ -123,7 +114,7 @@ class Checker:
         except BaseRefused:
             return around
 
-    def reported(self, places: Positions, link: Link, wrong: Wrong, repeat: int) -> Reported:
+    def reported(self, places: Places, link: Link, wrong: Wrong, repeat: int) -> Reported:
         """What is wrong with a link, with its places in a document whose name isn't set."""
         line, column = places.position(link.place(wrong.place))
         writing = self.writing(link, wrong, places.source)
@@ -166,17 +157,16 @@ class Checker:
             return self._verdicts[key]
         if len(self._verdicts) >= MOST_KEPT:
             self._verdicts.clear()
-        selected = Selected(self._selected.names - without) if without else self._selected
-        found = self._verdicts[key] = self._checked(link.text, link.asks, base, selected)
+        found = self._verdicts[key] = self._checked(link.text, link.asks, base, self._selected - without)
         return found
 
-    def _checked(self, text: str, asks: Asks, base: Optional[Base], selected: Selected) -> Optional[Wrong]:
+    def _checked(self, text: str, asks: Asks, base: Optional[Base], selected: FrozenSet[str]) -> Optional[Wrong]:
         """What is wrong with a text by what it has to be. Formats ask more than the URL Standard, and have rules of
         their own."""
         is_text = asks is Asks.ANOTHER and not self._shows_another(text, base)
         if is_text or (asks is Asks.SOME and not text and not self._is_empty_taken):
             rule = OF_FORMATS[OF_ASKS[asks]]
-            if not selected.has(rule.name):
+            if rule.name not in selected:
                 return None
             space = _SPACE.search(text)
             mended = self._mended(text, base) if space else None
@@ -195,13 +185,13 @@ class Checker:
         return Wrong(fault.rule, fault.place, said, self._mended(text, base))
 
     def _reported(
-        self, text: str, base: Optional[Base], refused: Refused, selected: Selected
+        self, text: str, base: Optional[Base], refused: Refused, selected: FrozenSet[str]
     ) -> Union[Refused, Violation, None]:
         """The first fault of a refused text whose rule is one that is reported."""
-        if selected.has(refused.rule):
+        if refused.rule in selected:
             return refused
         found = violations(text, base, self._profile)
-        return next((it for it in found if selected.has(it.rule)), None)
+        return next((it for it in found if it.rule in selected), None)
 
     def _shows_another(self, text: str, base: Optional[Base]) -> bool:
         """Whether a text shows that its author meant something else than what it is mended to, as a template does."""
@@ -215,7 +205,8 @@ class Checker:
         answer = mend(text, base, self._profile)
         return answer if isinstance(answer, Mended) else None
 
-def end_of(places: Positions, link: Link, place: int) -> int:
+
+def end_of(places: Places, link: Link, place: int) -> int:
     """The column after the code point at a place of a link, which is in the line of that place; the column of the place
     if there is no code point, as at the end of the link."""
     line, column = places.position(link.place(place))

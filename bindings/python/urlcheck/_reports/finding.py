@@ -1,9 +1,8 @@
 """What a report says of the links of documents, and of a document that isn't read."""
 
 from types import TracebackType
-from typing import Callable, Dict, Optional, Type
+from typing import Callable, Dict, NamedTuple, Optional, Tuple, Type
 
-from .._documents.apart import Told
 from .._streams import Unwritable
 from .names import Name, readable
 from .report import Reported, begin, end, passed, written
@@ -11,14 +10,31 @@ from .report import Reported, begin, end, passed, written
 Writer = Callable[[bytes], None]
 
 
-def lines_on(format: str, name: Name, found: Reported, is_first: bool) -> str:
+class Told(NamedTuple):
+    """What is told of a document besides its links: why it wasn't read to its end, or what is wrong with a comment."""
+
+    reason: str
+    line: Optional[int] = None
+    """The line where its reader stopped or the comment is, from 1, if it had begun."""
+    column: Optional[int] = None
+    """The column there, from 1."""
+    inner: str = ""
+    """The document within it that it is about, if it holds others."""
+
+    def after(self) -> str:
+        """What is said after the document's name."""
+        return ": " + self.reason if self.line is None else ":{}:{}: {}".format(self.line, self.column, self.reason)
+
+
+def lines_on(format: str, is_coloured: bool, name: Name, found: Reported, is_first: bool) -> bytes:
     """What is said about a refused link of the document of that name, which is the first one in the report or comes
     after others."""
     shown = name.in_report(format)
     file = readable(shown)
-    # (the lines of gnu begin with the name, which may have any bytes)
-    before = shown if format == "gnu" and shown != file else ""
-    return before + written(format, found._replace(file="" if before else file), is_first)
+    # (programs read from the lines of gnu which file it is, whose name may have any bytes)
+    before = shown if format == "gnu" and shown != file and not is_coloured else ""
+    lines = before + written(format, is_coloured, found._replace(file="" if before else file), is_first)
+    return lines.encode("utf-8", "surrogateescape")
 
 
 _IN_MESSAGE = {"%": "%25", "\r": "%0D", "\n": "%0A"}
@@ -44,8 +60,9 @@ class Report:
     """A report that is written document by document. It begins and ends as a context does, so that it is whole in its
     format whatever happens meanwhile."""
 
-    def __init__(self, format: str, unit: str, write: Writer) -> None:
+    def __init__(self, format: str, is_coloured: bool, unit: str, write: Writer) -> None:
         self._format = format
+        self._is_coloured = is_coloured
         self._unit = unit
         self._write = write
         self._is_first = True
@@ -62,11 +79,10 @@ class Report:
         if not isinstance(error, Unwritable):
             self._write(end(self._format, self.is_whole and error is None).encode("utf-8"))
 
-    def add(self, lines: bytes, first: bytes, rest: bytes) -> None:
-        """Writes the reports on links: about the first of them as these lines if another one came before, or as
-        ``first`` if it is the first in the report; and then the rest."""
-        if lines:
-            self._write(first if self._is_first else lines)
+    def add(self, first: Optional[Tuple[Name, Reported]], rest: bytes) -> None:
+        """Writes the reports on links: on the first of them, if there is one, and then the rest."""
+        if first is not None:
+            self._write(lines_on(self._format, self._is_coloured, *first, self._is_first))
             self._is_first = False
         self._write(rest)
 

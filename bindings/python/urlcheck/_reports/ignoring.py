@@ -1,13 +1,12 @@
-"""What comments leave out of what is wrong with the links of a document, and the warnings about the comments
-themselves."""
+"""What comments and patterns leave out of what is wrong with the links of a document, and the warnings about the
+comments."""
 
 import re
 from typing import Dict, FrozenSet, Iterator, List, NamedTuple, Optional, Sequence, Set, Tuple
 
 from .._readers.source import Comment, Link
 from .checker import Checker, Wrong
-from .rules import NAMES
-from .selected import NoRule, rules_of
+from .rules import NAMES, NoRule, rules_of
 
 _FORM = re.compile(r"urlcheck:\s*ignore(?P<file>-file)?\s*(?:\[(?P<rules>[^\]]*)\])?")
 """What a comment says: that links are meant as they are, or that violations of these rules are; on its line, or in the
@@ -49,9 +48,11 @@ class _Group:
 
 
 class Ignoring:
-    """The comments of a document. What they say is put together once for each line and for the file."""
+    """The comments of a document, and the patterns of links that are left out. What comments say is put together once for
+    each line and for the file."""
 
-    def __init__(self, comments: Sequence[Comment]) -> None:
+    def __init__(self, comments: Sequence[Comment], patterns: Sequence["re.Pattern[str]"] = ()) -> None:
+        self._patterns = patterns
         self._meant: Dict[Comment, _Meant] = {}
         self._remarks: List[Remark] = []
         for comment in comments:
@@ -89,11 +90,12 @@ class Ignoring:
         return bool(self._about(link))
 
     def leaves_out(self, link: Link) -> bool:
-        """Whether a comment leaves a link out, whatever is wrong with it."""
-        return any(it.is_of_links for it in self._about(link))
+        """Whether a link is left out, whatever is wrong with it."""
+        is_of_links = any(it.is_of_links for it in self._about(link))
+        return is_of_links or any(it.search(link.text) for it in self._patterns)
 
     def wrong(self, checker: Checker, link: Link) -> Tuple[Optional[Wrong], bool]:
-        """What is wrong with a link but for what comments leave out, and whether they leave out the link."""
+        """What is wrong with a link but for what comments leave out, and whether the link is left out."""
         found = checker.wrong(link)
         about = self._about(link)
         left, without = found, set()
@@ -102,7 +104,7 @@ class Ignoring:
                 group.needed.add(left.rule)
             without.add(left.rule)
             left = checker.wrong(link, frozenset(without))
-        return left, any(it.is_of_links for it in about) or (found is not None and left is None)
+        return left, self.leaves_out(link) or (found is not None and left is None)
 
     def remarks(self, is_all: bool) -> Iterator[Remark]:
         """What is said about the comments, after all links were looked at: which ones aren't understood, and if

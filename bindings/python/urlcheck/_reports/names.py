@@ -61,7 +61,7 @@ class Name(NamedTuple):
         return name
 
     def in_baseline(self) -> str:
-        """As it is the same however it was given."""
+        """The name as a baseline has it: the same for each way to write it."""
         return os.path.normpath(str(self)).replace(os.sep, "/")
 
     def in_difference(self) -> str:

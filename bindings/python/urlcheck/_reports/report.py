@@ -66,7 +66,7 @@ class Diagnostic(NamedTuple):
     mended: Optional[Mended] = None
     """What to write in place of the text; a format that doesn't say it leaves it out."""
     region: Optional[Region] = None
-    """Where the text is, if that may be written there as it is; without it SARIF has no fix, and rdjson no
+    """The place of the text, if that may be written there as it is; without it SARIF has no fix, and rdjson no
     suggestion."""
     end: Optional[int] = None
     """The column at which what is wrong ends; without it the one after the code point at the place, in the line of
@@ -112,13 +112,6 @@ def _numbered(*numbers: int) -> None:
 def _placed(text: str, place: int) -> int:
     """The place, if the text has it or ends there; otherwise a number that isn't a place."""
     return place if 0 <= place <= len(text) else -1
-
-
-def _ordered(region: Region) -> None:
-    """Raises ``ValueError`` if a region isn't one."""
-    _numbered(*region)
-    if (region.last_line, region.end_column) < (region.line, region.column):
-        raise ValueError("a region ends before it begins")
 
 
 def message(
@@ -192,7 +185,7 @@ def _report_on(
     yield begin(format, unit)
     is_first = True
     for it in diagnostics:
-        yield written(format, _reported(it, unit, wording), is_first)
+        yield written(format, False, _reported(it, unit, wording), is_first)
         is_first = False
     yield end(format, is_whole)
 
@@ -239,14 +232,14 @@ class Reported(NamedTuple):
     """Where one can read about the rule."""
     message: str
     within: str
-    """Where in the file it is besides, or empty."""
+    """Its place in the file in more detail, or nothing."""
     text: str
     region: Region
     """Where what is wrong is."""
     place: int
     mended: Optional[Mended]
     fixed: Optional[Region]
-    """Where the text is, if another one may be written there."""
+    """The place of the text, if another one may be written there."""
     repeat: int
     """How many diagnostics before it in the file have the same rule, place and text."""
 
@@ -259,22 +252,24 @@ def _reported(it: Diagnostic, unit: str, wording: str) -> Reported:
     said = message(it.text, Violation(it.rule, it.place), it.profile, wording, it.base)
     region = Region(it.line, it.column, it.line, end)
     if it.region is not None:
-        _ordered(it.region)
+        _numbered(*it.region)
+        if it.region[2:] < it.region[:2]:
+            raise ValueError("a region ends before it begins")
     fixed = None if it.mended is None else it.region
     address = address_of(it.rule)
     return Reported(it.file, it.rule, address, said, "", it.text, region, it.place, it.mended, fixed, it.repeat)
 
 
-def written(format: str, it: Reported, is_first: bool) -> str:
-    """What is said about a diagnostic: whole lines. If it comes after another one, it begins with what goes between the
-    two."""
+def written(format: str, is_coloured: bool, it: Reported, is_first: bool) -> str:
+    """What is said about a diagnostic: whole lines, in colours if they are asked for and the format has some. If it comes
+    after another one, it begins with what goes between the two."""
     number = _named(format, FORMATS, "format")
     text, kind, offered = "", 0, 0
     if it.mended is not None:
         text, kind, offered = it.mended.text, _KINDS[it.mended.kind], int(it.mended.is_offered)
     strings = it.file, it.rule, it.address, it.message, it.within, it.text, text
     numbers = *it.region, *(it.fixed or _NOWHERE), _placed(it.text, it.place), it.repeat, kind, offered
-    said = native.diagnostic(number, is_first, strings, numbers)
+    said = native.diagnostic(number, is_coloured, is_first, strings, numbers)
     return native.file_begin(number, it.file) + said + native.file_end(number)
 
 

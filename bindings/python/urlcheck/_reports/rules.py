@@ -1,7 +1,8 @@
 """What each rule requires, and where to read about it: the rules of the URL Standard, and the rules of the formats of
-documents, which apply only to links in documents."""
+documents, which apply only to links in documents. Which of them are reported."""
 
-from typing import Dict, NamedTuple
+import difflib
+from typing import Dict, FrozenSet, Iterable, NamedTuple, Optional
 
 from .. import RULES, MendKind, explain
 from .._readers.source import Asks
@@ -60,9 +61,39 @@ def address_of(name: str) -> str:
 NAMES = (*RULES, *OF_FORMATS)
 """The names of all rules."""
 
+ALL = frozenset(NAMES)
+
 TITLES = {
     MendKind.SAME: "Write {} (the same URL)",
     MendKind.ESCAPED: "Percent-encode: {}",
     MendKind.CHANGED: "Write {} (perhaps another URL)",
 }
 """What an editor calls the writing of a mended text, by its kind."""
+
+
+class NoRule(ValueError):
+    """A name that isn't a rule's."""
+
+    def __init__(self, name: str) -> None:
+        near = nearest(name, 0.6)
+        super().__init__("no rule is named '{}'{}".format(name, "; the nearest is " + near if near else ""))
+
+
+def nearest(name: str, least: float = 0.8) -> Optional[str]:
+    """The rule whose name is near to another one by at least this much of 1, if one is."""
+    near = difflib.get_close_matches(name.strip().lower(), NAMES, 1, least)
+    return near[0] if near else None
+
+
+def rules_of(words: Iterable[str]) -> FrozenSet[str]:
+    """The rules that these words name, each one or several with commas between. Raises ``NoRule``."""
+    names = [name.strip().lower() for word in words for name in word.split(",")]
+    for name in names:
+        if name not in NAMES:
+            raise NoRule(name)
+    return frozenset(names)
+
+
+def are_rules(word: str) -> bool:
+    """Whether a word names rules, with commas between."""
+    return all(name.strip().lower() in NAMES for name in word.split(","))
