@@ -36,13 +36,19 @@ a_line() {
     [ -n "$short" ] && [ -n "$long" ] && echo $(((long - short) / 1000))
 }
 
+# of_text TEXT WORD.. : what the program takes with the words and this text. Copies on the stack cost some hundred instructions more
+# or less by where it begins, which is below the words and the environment. So both together have one length with each text.
+of_text() {
+    : >"$room/none"
+    FILL=$(printf '%*s' $((64 - ${#1})) '') counted "$room/none" "${@:2}" "$1"
+}
+
 # bound KIND MOST WORD.. : a line of this kind costs at most so much, or a text, if the words are for `check`
 bound() {
     local kind=$1 most=$2 cost
     shift 2
     if [ "$kind" = text ]; then
-        : >"$room/none"
-        cost=$(($(counted "$room/none" "$@" 'https://example.com/a/b?x=1') - $(counted "$room/none" "$@" 'a:')))
+        cost=$(($(of_text 'https://example.com/a/b?x=1' "$@") - $(of_text a: "$@")))
     else
         cost=$(a_line "$kind" "$@")
     fi
