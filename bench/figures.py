@@ -15,50 +15,30 @@ from typing import Dict, List, Tuple
 
 Costs = Dict[str, Dict[str, float]]
 
-# The rows of docs/SPEED.md on a check, by their first cells: the kind of bench/kinds, and the call.
+# The rows of docs/SPEED.md on a check, by their first cells: the kind of bench/kinds, and the call. Its picture has all kinds.
 CHECKS = {
     "mixed, as in documents": ("mixed", "check"),
     "mixed, by `check_alone`": ("mixed_alone", "alone"),
     "plain": ("plain", "check"),
-    "with a root dot": ("root_dot", "check"),
     "with a port": ("port", "check"),
     "full of escapes": ("escapes", "check"),
-    "path beyond ASCII": ("beyond_ascii", "check"),
     "path of 10,000 bytes": ("long_path", "check"),
-    "host of 100 bytes": ("long_host", "check"),
     "upper case": ("upper", "check"),
-    "upper case in the host alone": ("upper_host", "check"),
     "host beyond ASCII": ("name_abroad", "check"),
-    "host with `xn--`": ("ace", "check"),
     "IPv4 address": ("ipv4", "check"),
-    "IPv6 address": ("ipv6", "check"),
-    "`file:` link": ("file", "check"),
     "reference, the base kept": ("reference", "check"),
-    "reference with a host, the base kept": ("host_reference", "check"),
     "refused: code point": ("code_point", "check"),
-    "refused: space": ("space", "check"),
-    "refused: host with `ab--c`": ("hyphens", "check"),
-    "refused: credentials": ("credentials", "check"),
     "wide profile, host with `_`": ("underscore", "check"),
-    "wide profile, refused: credentials": ("credentials_wide", "check"),
-    "parser's profile, plain": ("plain_parser", "check"),
-    "parser's profile, escaped host": ("escaped_host", "check"),
     "parser's profile, host with `_`": ("underscore_parser", "check"),
-    "parser's profile, refused: credentials": ("credentials_parser", "check"),
 }
-# The rows on the text of a URL: the end of the kind, after `resolve_` and `record_`.
+# The rows on the text of a URL, all that miss what is wanted among them: the end of the kind, after `resolve_` and `record_`.
 TEXTS = {
     "plain": "plain",
-    "with a port": "port",
     "full of escapes": "escapes",
-    "path beyond ASCII": "beyond_ascii",
     "upper case": "upper",
-    "upper case in the host alone": "upper_host",
     "host beyond ASCII": "name_abroad",
-    "host with `xn--`": "ace",
     "IPv4 address": "ipv4",
     "IPv6 address": "ipv6",
-    "`file:` link": "file",
     "reference, the base kept": "reference",
 }
 # The rows on a call from C: the end of the kind, after `c_`.
@@ -69,9 +49,9 @@ FROM_C = {
     "reference, the base kept": "reference",
     "reference with its own base": "own_base",
 }
-CHECK_HEAD = "| Texts | `check` | Ada | ratio |"
-TEXT_HEAD = "| Texts | Ada | resolve | ratio | record | ratio |"
-C_HEAD = "| Texts | from C | Ada | ratio |"
+CHECK_HEAD = "| Texts | `check` | ratio |"
+TEXT_HEAD = "| Texts | resolve | ratio | record | ratio |"
+C_HEAD = "| Texts | from C | ratio |"
 # The sentences with figures: the page, and the words with the names of figures in braces.
 SENTENCES = (
     ("README.md", "costs {mixed} times the instructions of Ada's `can_parse`, and {c} times if called from C."),
@@ -79,6 +59,7 @@ SENTENCES = (
     ("docs/SPEED.md", "| Rattle | `check` of a link, as in documents | `can_parse` of Ada 3.4.4, by instructions | {mixed} |"),
     ("docs/SPEED.md", "| C | the same | the same | {c} |"),
     ("docs/SPEED.md", "A plain link takes at most {plain_lint} in `lint`, with 5 % of slack."),
+    ("docs/SPEED.md", "In `links` it takes at most {plain_links}, and a reference {reference_links}."),
     ("docs/SPEED.md", "`check` of a link takes at most {text_check}."),
     ("docs/SPEED.md", "{code_point_lint} in `gnu`, {code_point_caret} in `caret`, {code_point_json} in JSON and {code_point_sarif} in SARIF."),
     ("docs/SPEED.md", "which takes {code_point_mend} in `mend`."),
@@ -118,13 +99,13 @@ def ratio(costs: Costs, kind: str, call: str) -> str:
 
 def check_cells(costs: Costs, kind: str, call: str) -> List[str]:
     """The cells of a row on a check, or on a call from C, after the first."""
-    return [whole(costs[kind][call]), whole(costs[kind]["ada"]), ratio(costs, kind, call)]
+    return [whole(costs[kind][call]), ratio(costs, kind, call)]
 
 
 def text_cells(costs: Costs, end: str) -> List[str]:
     """The cells of a row on the text of a URL, after the first."""
     resolve, record = "resolve_" + end, "record_" + end
-    cells = [whole(costs[resolve]["ada"]), whole(costs[resolve]["resolve"]), ratio(costs, resolve, "resolve")]
+    cells = [whole(costs[resolve]["resolve"]), ratio(costs, resolve, "resolve")]
     return cells + [whole(costs[record]["record"]), ratio(costs, record, "record")]
 
 

@@ -34,7 +34,7 @@ in_rust() {
 in_go() {
     mkdir -p "$room/go"
     cp "$top/bench/languages/peer.go" "$room/go/"
-    printf '%s\n' 'module peer' 'go 1.19' 'require yuccaeave.example/urlcheck v0.4.0' \
+    printf '%s\n' 'module peer' 'go 1.19' 'require yuccaeave.example/urlcheck v0.5.0' \
         "replace yuccaeave.example/urlcheck => $top/bindings/go" >"$room/go/go.mod"
     (cd "$room/go" && go build -o peer .) && "$room/go/peer" "$room/links" "$rounds"
 }

@@ -96,6 +96,7 @@ spoiled 'a row of short sentences' 'sentences in a row of at most' "$prose" docs
 spoiled 'a word that the pages avoid' "the pages avoid 'judges'" "$prose" docs/QUESTIONS.md 's/finds \[the links/judges [the links/'
 spoiled 'a message with such a word' "a message has 'judges'" "$prose" crates/uv_messages/src/hints.rt 's/TEXT checks one text/TEXT judges one text/'
 spoiled 'an odd message' "'is no ..': write isn't a" "$prose" docs/share/man/urlcheck-language-server.1 '$a This is no message.'
+spoiled 'an odd comment' "'whoever': write anyone who" "$prose" crates/uv_grammar/src/checker.rt 's/^\/\/\/ Whether/\/\/\/ For whoever asks, whether/'
 spoiled 'no table of avoided words' 'the table of avoided words is missing' "$prose" CONTRIBUTING.md '/^| `/d'
 spoiled 'no word on who needs a page' "doesn.t say who needs it" "$prose" docs/guides/hook.md 's/^For a repository/A repository/'
 spoiled 'a long guide' 'a guide has at most' "$prose" docs/guides/mend.md 's/$/\n\n/'

@@ -1,7 +1,8 @@
 #!/usr/bin/env python3
 """How the pages read: forms that a native writer would change, long sentences and rows of short ones, words that
 CONTRIBUTING.md avoids, first lines, lengths, and spelling. The messages of the programs avoid these words too, and those
-forms are looked for in the messages of the Python package and in the manual pages that are written by hand.
+forms are looked for in the messages of the Python package, in the manual pages that are written by hand, and in the
+comments of the crates and of that package.
 
     tests/runs/prose.py [TOP]            sees that each page keeps to the limits below; 1 where one doesn't
     tests/runs/prose.py --table [TOP]    writes a row for each page: its words, its sentences, and what they are allowed
@@ -30,7 +31,7 @@ ODD = (
     (r"^Of [^,]*, ", "'Of ..' at the start: begin with the subject"),
     (r"(?<!there )\b(is|are|was|were) no(ne)?\b(?! longer\b)", "'is no ..': write isn't a .."),
     (r"\b(that|those|the ones?|the same) of\b|\bthe (former|latter)\b", "a pronoun in place of a noun: repeat the noun"),
-    (r"(?<!checked )(?<!string )(?<!host )(?<!text )(?<!is read )(?<!, )\balone\b(?! (or|and) against\b)", "'alone' for only"),
+    (r"(?<!checked )(?<!string )(?<!host )(?<!text )(?<!is read )(?<!, )\balone\b(?!,? (or|and) against\b)", "'alone' for only"),
     (r"\b(Standard|rules?|scheme|format|contract|header) asks?\b", "'asks' of a thing: write requires, or needs"),
     (r"\banew\b", "'anew': write again"),
     (r"\balso (if|when|where)\b", "'also if': write even if"),
@@ -146,6 +147,30 @@ def words_of_manual(file):
     return re.split(r"\n\s*\n|\nPP\n", text)
 
 
+# What a comment begins with, by the ending of a source.
+COMMENTS = {".rt": r"\s*//[/!]? ?(.*)", ".antt": r"\s*-- ?(.*)", ".py": r"\s*# ?(.*)"}
+
+
+def comments_of(file):
+    """The comments of a source, each on its lines; a line of code is empty. In Python, docstrings are among them."""
+    text = file.read_text(encoding="utf-8")
+    lines = [re.match(COMMENTS[file.suffix], line) for line in text.split("\n")]
+    said = [line.group(1) if line else "" for line in lines]
+    for node in ast.walk(ast.parse(text)) if file.suffix == ".py" else ():
+        if isinstance(node, ast.Expr) and isinstance(node.value, ast.Constant) and isinstance(node.value.value, str):
+            said[node.lineno - 1 : node.end_lineno] = node.value.value.split("\n")
+    return "\n".join(said)
+
+
+def check_comments(top, wrong):
+    """The forms that make a sentence odd, in comments of the crates and of the Python package."""
+    folders = ("crates/*/src", "crates/*/specs", "crates/*/proofs", "bindings/python/urlcheck")
+    files = (it for folder in folders for it in sorted(top.glob(folder + "/**/*")))
+    for file in (it for it in files if it.suffix in COMMENTS):
+        for line, sentence, advice in odd_in(sentences_of(comments_of(file))):
+            wrong.append("{}:{}: {}: {} ..".format(file.relative_to(top), line, advice, sentence[:60]))
+
+
 def check_forms(top, wrong):
     """The forms that make a sentence odd, in messages and manual pages."""
     files = sorted((top / "bindings/python/urlcheck").rglob("*.py")) + [top / "docs/share/man" / name for name in MANUALS]
@@ -246,6 +271,7 @@ def main():
     check_spelling(top, found, wrong)
     check_messages(top, pattern, wrong)
     check_forms(top, wrong)
+    check_comments(top, wrong)
     for line in wrong:
         print("FAILED: " + line)
     print("prose: {} pages, {:.1f} to {:.1f} words a sentence".format(len(found), min(means), max(means)))

@@ -254,11 +254,6 @@ ends 2 'known faults of a list that is missing' sh ../new-faults.sh missing.link
 in_folder find
 recipe list sh >../find.sh
 hard_names 'find' bash ../find.sh
-if has make; then
-    in_folder make
-    recipe list make >Makefile
-    hard_names 'make' make -s check-links
-fi
 
 # The hook: what is staged is checked, whatever the working tree has, and a list that is renamed too.
 try_hook() {
@@ -457,43 +452,6 @@ sed_line=$(tr '\n' ' ' <"$guides/list.md" | sed -n "s/.*GNU \`\(sed [^\`]*\)\`.*
 printf '\357\273\277https://example.com/\n' >list
 ends any 'a list with a byte order mark' sh -c 'urlcheck links <list'
 ends 0 'a byte order mark that is taken off' sh -c "$sed_line <list | urlcheck links"
-
-# Pieces: their sums are the list's, a piece that fails fails the whole, and so does a wrong line.
-in_folder pieces
-awk 'BEGIN { for (n = 1; n <= 40000; n++)
-    print (n % 5 == 1 ? "http://h/a b" : n % 5 == 3 ? "x" : "http://h/" n) }' >all.links
-sums='40000 lines, 16000 refused'
-awk 'BEGIN { for (n = 1; n <= 40000; n++) print "http://h/" n }' >right.links
-# failing TIMES : a program that fails with 3 on a piece that has the line http://h/20000, and otherwise is urlcheck
-mkdir failing
-printf '#!/bin/sh\ncat >piece.$$\nif grep -qx http://h/20000 piece.$$; then rm piece.$$; exit 3; fi\n%s' \
-    "$room/path/urlcheck \"\$@\" <piece.\$\$; ended=\$?; rm piece.\$\$; exit \$ended" >failing/urlcheck
-chmod +x failing/urlcheck
-# sums COMMAND.. : the sums of a list in pieces; the command reads all.links
-in_pieces() {
-    local what=$1
-    shift
-    cp all.links wrong.links
-    ends 1 "$what of a list" "$@"
-    says "$what of a list" "$sums"
-    cat refused.* | sed 's/^-:[0-9]*/-/' | sort >refused
-    { urlcheck lint --quiet all.links || true; } | sed 's/^all.links:[0-9]*/-/' | sort | cmp - refused ||
-        { echo "FAILED: $what: other lines"; failed=1; }
-    cp right.links all.links
-    ends 0 "$what of a right list" "$@"
-    says "$what of a right list" '40000 lines, 0 refused'
-    PATH=$PWD/failing:$PATH ends any "$what with a piece that fails" "$@"
-    ! grep -q 'lines, ' "$room/out" || { echo "FAILED: $what: a piece that failed was counted"; failed=1; }
-    : >all.links
-    ends 0 "$what of an empty list" "$@"
-    says "$what of an empty list" '0 lines, 0 refused'
-    rm all.links
-    ends any "$what of no list" "$@"
-    ! grep -q 'lines, ' "$room/out" || { echo "FAILED: $what: a list that isn't there was counted"; failed=1; }
-    mv wrong.links all.links
-}
-recipe list bash >pieces.sh
-in_pieces 'xargs and split' bash pieces.sh
 
 [ $failed = 0 ] && echo "uses: $count runs of recipes"
 exit $failed
