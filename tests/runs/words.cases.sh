@@ -270,7 +270,7 @@ no_command() {
     shift
     expect 2 '' "urlcheck: unrecognized subcommand '$1'\n$(usage_of "$(basename "$program") <COMMAND>")urlcheck: $hint\nwords\n" "$@"
 }
-for words in 'chk check' 'chek check' 'LINT lint' 'lnit lint' 'mnd mend' 'vec vectors' 'exp explain' 'lks links'; do
+for words in 'chk check' 'chek check' 'LINT lint' 'lnit lint' 'mnd mend' 'vec vectors' 'exp explain' 'lks links' 'link links'; do
     read -r word near <<<"$words"
     no_command "no command is named '$word'; the nearest is $near" $word urn:a
 done
@@ -733,4 +733,4 @@ if it.get("offered"): print("urlcheck: write " + it["mended"])' "$room/json" | c
         fail "check $text: on standard error: $(cat "$room/err")"
 done < <("$program" explain | awk '/^    / && !text { text = substr($0, 5) } /^The base of both: / { base = substr($0, 19) }
     /^URL Standard, / { print base "\037" text; base = text = "" }')
-all_cases 584
+all_cases 585

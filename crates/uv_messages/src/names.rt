@@ -20,7 +20,8 @@ pub(crate) fn longer_names<'n>(
 }
 
 /// The nearest of the names, if at most a third of the word's letters, or one letter of a shorter word, has to be
-/// changed, removed, added or swapped with the next one, ignoring case.
+/// changed, removed, added or swapped with the next one, ignoring case. Of two that are as near, it is one that begins
+/// with the word, or else the first.
 pub(crate) fn nearest<'n>(
     alloc: Global,
     word: &str,
@@ -31,7 +32,8 @@ pub(crate) fn nearest<'n>(
     let mut limit = (word.len() / 3).max(1) + 1;
     for name in names {
         let edits = osa_distance(alloc, word.as_str(), name)?;
-        if edits < limit {
+        let is_begun = near.is_some() && name.starts_with(word.as_str());
+        if edits < limit || (edits == limit && is_begun) {
             near = Some(*name);
             limit = edits;
         }
