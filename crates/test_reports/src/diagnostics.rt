@@ -24,7 +24,6 @@ pub fn refused<'a>(
       rule = rule.now;
       uri = [];
       message = message.now;
-      within = [];
       text = text.now;
       place = place;
       repeat = 0;
@@ -42,7 +41,6 @@ pub fn refused<'a>(
         rule,
         uri: "",
         message,
-        within: "",
         text,
         place,
         repeat: 0,

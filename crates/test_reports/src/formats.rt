@@ -1,6 +1,6 @@
 //! Diagnostics that no run of the program reports, written out by hand: without a text, by a rule of the caller's own,
-//! within something, over two lines, with a line feed in the message; of a host that isn't a domain though nothing is
-//! wrong with it under the profile; and the end of a document of SARIF after a run that was stopped.
+//! over two lines, with a line feed in the message; of a host that isn't a domain though nothing is wrong with it under
+//! the profile; and the end of a document of SARIF after a run that was stopped.
 
 use crate::diagnostics::refused;
 use crate::reports::report;
@@ -46,21 +46,6 @@ fn names_a_page_where_there_is_one(rt: HostRuntime) -> Result<(), Fail> {
     };
     let text = report(rt.alloc(), Format::Rdjson, &paged)?;
     assert!(rt; text.contains("{\"code\":{\"url\":\"https://h.example/own\",\"value\":\"own\"},"));
-    Ok(())
-}
-
-// The message is followed by the place of the text in the file, with the escapes of the format.
-#[test]
-fn says_within_what_the_text_is(rt: HostRuntime) -> Result<(), Fail> {
-    let link = SeenText::new("page.html");
-    let found = Diagnostic {
-        within: "row <2>",
-        ..refused("f", "own", "no page is there", 0, &link)
-    };
-    let gnu = report(rt.alloc(), Format::Gnu, &found)?;
-    assert!(rt; gnu.as_str() == "f:3:1: error: no page is there, in row <2> [own]\n");
-    let checkstyle = report(rt.alloc(), Format::Checkstyle, &found)?;
-    assert!(rt; checkstyle.contains("message=\"no page is there, in row &lt;2&gt;\" source="));
     Ok(())
 }
 

@@ -15,7 +15,7 @@ pub(crate) fn report(
     let mut text = String::new(alloc);
     push_begin(alloc, &mut text, format, Columns::CodePoints)?;
     push_file_begin(alloc, &mut text, format, diagnostic.file)?;
-    push(alloc, &mut text, format, Look::Plain, diagnostic, true)?;
+    push(alloc, &mut text, format, Look::Plain, diagnostic)?;
     push_file_end(&mut text, format)?;
     text.push_str(end_of(format, Completion::Whole))?;
     Ok(text)

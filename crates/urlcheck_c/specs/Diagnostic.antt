@@ -1,6 +1,6 @@
 -- A diagnostic on a text that is in a file, by numbers and bytes.
-use Rattle.std.specs.Prelude.{◌≡◌, ◌≢◌, ℕ, ◌⊎◌, ◌==◌, ◌&&◌, ◌≤◌, ◌<◌, not, Bool, true, false, List, length, Option, Some}
-use Rattle.std.specs.Prelude.{None, Result, Ok, Err, IsUtf8}
+use Rattle.std.specs.Prelude.{◌≡◌, ◌≢◌, ℕ, ◌⊎◌, ◌==◌, ◌&&◌, ◌≤◌, ◌<◌, not, Bool, true, false, List, ◌++◌, codes, length}
+use Rattle.std.specs.Prelude.{if◌then◌else◌, None, Option, Some, Result, Ok, Err, IsUtf8}
 use Rattle.std.specs.Borrow.{Bor}
 use Rattle.std.specs.Str.{chars}
 use Rattle.uv_report.specs.declared.diagnostic.Diagnostic.{Diagnostic}
@@ -9,7 +9,7 @@ use Rattle.uv_report.specs.declared.diagnostic.Region.{Region}
 use Rattle.uv_report.specs.declared.format.Format.{Format}
 use Rattle.uv_report.specs.declared.look.Look.{Look}
 use Rattle.uv_report.specs.Diagnostic.{DiagnosticView, FixView, diagnostic_view, fix_view}
-use Rattle.uv_report.specs.Report.{diagnostic_text}
+use Rattle.uv_report.specs.Report.{diagnostic_text, separator}
 use Rattle.urlcheck_c.specs.declared.reports.diagnostics.ReportedNumbers.{ReportedNumbers}
 use Rattle.urlcheck_c.specs.declared.reports.diagnostics.ReportedTexts as code
 use Rattle.urlcheck_c.specs.declared.finding.Finding.{Finding}
@@ -139,7 +139,6 @@ pub record IsDiagnostic (numbers : ReportedNumbers) (texts : ReportedTexts) (tex
     rule = texts.rule;
     uri = texts.uri;
     message = texts.message;
-    within = texts.within;
     text = text;
     place = numbers.place;
     repeat = numbers.repeat;
@@ -157,11 +156,23 @@ IsNoDiagnostic numbers texts finding =
     ⊎ ((¬ (IsRegion numbers.region) × (finding ≡ plain_finding NoColumn))
     ⊎ IsNoFix numbers texts.fix finding)))))
 
-abbrev pub IsDiagnosticRead : ReportedNumbers → ReportedTexts → List ℕ → Result Diagnostic Finding → Type 0
-IsDiagnosticRead numbers texts text (Ok found) = IsDiagnostic numbers texts text (diagnostic_view found)
+-- this one, with what else says where in the file it is; or why there is none
+abbrev pub IsDiagnosticRead : ReportedNumbers → ReportedTexts → List ℕ → Result (Diagnostic × Bor (List ℕ)) Finding
+    → Type 0
+IsDiagnosticRead numbers texts text (Ok found) =
+    IsDiagnostic numbers texts text (diagnostic_view found.0) × (found.1.now ≡ texts.within)
 IsDiagnosticRead numbers texts text (Err finding) = IsNoDiagnostic numbers texts finding
 
 -- ---- the answer
+
+-- a message, and after it what else says where in the file that is
+abbrev pub told : List ℕ → List ℕ → List ℕ
+told message within = if length within == 0 then message else message ++ (codes ", in " ++ within)
+
+-- the text of a diagnostic with its whole message, after what comes before it
+abbrev pub said_text : Format → Look → Bool → DiagnosticView → List ℕ → List ℕ
+said_text format look is_first found within =
+    separator format is_first ++ diagnostic_text format look (record found { message = told found.message within })
 
 -- There is no text, or no diagnostic on it, and nothing was written; or its text is given.
 abbrev pub IsReportedAnswer : Format → Look → Bool → ReportedNumbers → ReportedTexts → List ℕ → List ℕ → Written → Type 0
@@ -170,7 +181,7 @@ IsReportedAnswer format look is_first numbers texts old new answer =
     ⊎ (IsText texts.text numbers.place
     × (((finding : Finding) × IsNoDiagnostic numbers texts finding × IsUnwritten finding old new answer)
     ⊎ ((found : DiagnosticView) × IsDiagnostic numbers texts texts.text found
-    × IsGiven (diagnostic_text format look is_first found) old new answer)))
+    × IsGiven (said_text format look is_first found texts.within) old new answer)))
 
 -- No format has the number, and nothing was written; or it is answered in the format.
 abbrev pub IsDiagnosticAnswer : ℕ → ℕ → ℕ → ReportedNumbers → ReportedTexts → List ℕ → List ℕ → Written → Type 0

@@ -13,7 +13,7 @@ use Rattle.uv_report.specs.Places.Column.{column_at, width}
 use Rattle.uv_report.specs.Diagnostic.{DiagnosticView, FixView}
 use Rattle.uv_sentences.specs.LineViolation.{violation_address, violation_end, violation_name}
 use Rattle.uv_sentences.specs.LineViolation.{violation_place}
-use Rattle.uv_report.specs.Report.{diagnostic_text, file_begin_text, file_end_text}
+use Rattle.uv_report.specs.Report.{diagnostic_text, file_begin_text, file_end_text, separator}
 use Rattle.uv_lines.specs.Lines.{short_line, without_mark}
 use Rattle.uv_lint.specs.declared.counts.LintCounts.{LintCounts}
 use Rattle.uv_lint.specs.declared.setting.LineForm.{LineForm}
@@ -78,7 +78,6 @@ diagnostic_in reported region fix violation message = record {
   rule = violation_name violation;
   uri = violation_address violation;
   message = message;
-  within = [];
   text = reported.text;
   place = violation_place violation;
   repeat = 0;
@@ -100,10 +99,10 @@ ForeignColumns =
     → column_at columns start (shown (Some bytes)) (foreign_place bytes)
     ≡ min (start + width columns start (chars (take (utf8_valid_len bytes) bytes))) (2 ^ 64 - 1)
 
--- a diagnostic with what is round it
+-- a diagnostic with what is before it and round it
 abbrev pub one_text : LineForm → Format → Look → Bool → DiagnosticView → List ℕ
 one_text form format look is_first found =
-    framed_text form format found.file (diagnostic_text format look is_first found)
+    separator format is_first ++ framed_text form format found.file (diagnostic_text format look found)
 
 -- A diagnostic for each violation, with its message; the first of them is the first one of the report, or isn't, and
 -- only it says what to write in place of the text.

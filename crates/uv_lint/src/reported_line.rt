@@ -22,7 +22,9 @@ use uv_grammar::wider_profile;
 use uv_io::{DeviceFault, Sink};
 use uv_lines::{ReportFault, end_part};
 use uv_model::Profile;
-use uv_report::{ColumnCounter, Diagnostic, Fix, Region, push, push_file_begin, push_file_end};
+use uv_report::{
+    ColumnCounter, Diagnostic, Fix, Region, push, push_file_begin, push_file_end, separator,
+};
 use uv_sentences::{Checked, LineViolation, SeenText, Wording, message};
 
 /// A line, or the link of one, with the place where it is.
@@ -170,7 +172,6 @@ fn diagnostic_on<'x>(
         rule: violation.name(),
         uri: violation.address(),
         message: said.message,
-        within: "",
         text: seen,
         place: violation.place(),
         repeat: 0,
@@ -309,11 +310,12 @@ fn put_framed(
     let format = setting.format;
     let look = setting.look;
     reported.clear();
+    reported.push_str(separator(format, is_first))?;
     match setting.form {
-        LineForm::Plain => push(alloc, reported, format, look, diagnostic, is_first),
+        LineForm::Plain => push(alloc, reported, format, look, diagnostic),
         LineForm::Located => {
             push_file_begin(alloc, reported, format, diagnostic.file)?;
-            push(alloc, reported, format, look, diagnostic, is_first)?;
+            push(alloc, reported, format, look, diagnostic)?;
             push_file_end(reported, format)
         }
     }

@@ -1,6 +1,5 @@
 -- A diagnostic as data: where something is wrong in a file, by which rule, the message, and what to write there.
-use Rattle.std.specs.Prelude.{ℕ, ◌==◌, Bool, List, ◌++◌, codes, Option, Some, None, if◌then◌else◌, length}
-use Rattle.std.specs.Prelude.{option_map}
+use Rattle.std.specs.Prelude.{ℕ, Bool, List, Option, Some, None, if◌then◌else◌, option_map}
 use Rattle.uv_model.specs.declared.mend_kind.MendKind.{MendKind}
 use Rattle.uv_report.specs.declared.diagnostic.Diagnostic.{Diagnostic}
 use Rattle.uv_report.specs.declared.diagnostic.Fix.{Fix}
@@ -16,15 +15,14 @@ pub record FixView : Type 0 where
   pub is_offered : Bool
   pub is_named : Bool
 
--- what is wrong somewhere in a file: where, by which rule, which is told of there, the message, within what it is, the
--- text and the place in it, how many are the same before it, and what to write in place of the text
+-- what is wrong somewhere in a file: where, by which rule, which is told of there, the message, the text and the place in
+-- it, how many are the same before it, and what to write in place of the text
 pub record DiagnosticView : Type 0 where
   pub file : List ℕ
   pub region : Region
   pub rule : List ℕ
   pub uri : List ℕ
   pub message : List ℕ
-  pub within : List ℕ
   pub text : List ℕ
   pub place : ℕ
   pub repeat : ℕ
@@ -48,7 +46,6 @@ diagnostic_view diagnostic = record {
   rule = diagnostic.rule.now;
   uri = diagnostic.uri.now;
   message = diagnostic.message.now;
-  within = diagnostic.within.now;
   text = diagnostic.text.now;
   place = diagnostic.place;
   repeat = diagnostic.repeat;
@@ -59,10 +56,6 @@ abbrev pub edit_view : Region × Fix → Region × FixView
 edit_view edit = (edit.0, fix_view edit.1)
 
 -- ---- what is made of them
-
--- a message, and after it within what that is
-abbrev pub told : List ℕ → List ℕ → List ℕ
-told message within = if length within == 0 then message else message ++ (codes ", in " ++ within)
 
 -- what a report carries of the text
 abbrev pub carried_text : DiagnosticView → List ℕ

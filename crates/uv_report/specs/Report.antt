@@ -1,13 +1,13 @@
 -- What a report is made of, in each format: a beginning, for each file a beginning of its own, its diagnostics and an
 -- end, and then an end.
-use Rattle.std.specs.Prelude.{ℕ, Bool, List, []}
+use Rattle.std.specs.Prelude.{ℕ, Bool, false, List, [], codes}
 use Rattle.uv_report.specs.declared.places.column.Columns.{Columns}
 use Rattle.uv_report.specs.declared.completion.Completion.{Completion}
 use Rattle.uv_report.specs.declared.format.Format.{Format}
 use Rattle.uv_report.specs.declared.format.Format.TheVariants.{Gnu, Caret, Json, Github, Sarif, Checkstyle}
 use Rattle.uv_report.specs.declared.format.Format.TheVariants.{Junit, Gitlab, Rdjson}
 use Rattle.uv_report.specs.declared.look.Look.{Look}
-use Rattle.uv_report.specs.Diagnostic.{DiagnosticView, told}
+use Rattle.uv_report.specs.Diagnostic.{DiagnosticView}
 use Rattle.uv_report.specs.Formats.Caret.{caret_text}
 use Rattle.uv_report.specs.Formats.Checkstyle.{checkstyle_text, document_begin, document_end, file_begin, file_end}
 use Rattle.uv_report.specs.Formats.Github.{github_text}
@@ -33,22 +33,25 @@ file_begin_text Checkstyle file = file_begin file
 file_begin_text Junit file = suite_begin file
 file_begin_text _ file = []
 
--- a diagnostic with its whole message, which looks so, and is the first one of the report or isn't
-abbrev pub told_text : Format → Look → Bool → DiagnosticView → List ℕ
-told_text Gnu look is_first found = gnu_text look found
-told_text Caret look is_first found = caret_text look found
-told_text Json look is_first found = json_line found
-told_text Github look is_first found = github_text found
-told_text Sarif look is_first found = sarif_text is_first found
-told_text Checkstyle look is_first found = checkstyle_text found
-told_text Junit look is_first found = junit_text found
-told_text Gitlab look is_first found = gitlab_text is_first found
-told_text Rdjson look is_first found = rdjson_text is_first found
+-- what is before a diagnostic, which is the first one of the report or isn't: in a list of JSON a comma but before the
+-- first
+abbrev pub separator : Format → Bool → List ℕ
+separator Sarif false = codes ","
+separator Gitlab false = codes ","
+separator Rdjson false = codes ","
+separator _ _ = []
 
--- a diagnostic: within what it is is said after its message
-abbrev pub diagnostic_text : Format → Look → Bool → DiagnosticView → List ℕ
-diagnostic_text format look is_first found =
-    told_text format look is_first (record found { message = told found.message found.within })
+-- a diagnostic, which looks so
+abbrev pub diagnostic_text : Format → Look → DiagnosticView → List ℕ
+diagnostic_text Gnu look found = gnu_text look found
+diagnostic_text Caret look found = caret_text look found
+diagnostic_text Json look found = json_line found
+diagnostic_text Github look found = github_text found
+diagnostic_text Sarif look found = sarif_text found
+diagnostic_text Checkstyle look found = checkstyle_text found
+diagnostic_text Junit look found = junit_text found
+diagnostic_text Gitlab look found = gitlab_text found
+diagnostic_text Rdjson look found = rdjson_text found
 
 -- what is after the diagnostics of a file
 abbrev pub file_end_text : Format → List ℕ

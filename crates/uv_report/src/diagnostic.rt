@@ -1,6 +1,6 @@
 //! A diagnostic as data: its texts are made where they are known, and a format only writes them.
 ghost use Rattle.std.specs.Cow.{cow_str_bytes};
-ghost use Rattle.std.specs.Prelude.{◌≡◌, ◌++◌, IfOk, codes, option_map, string_bytes};
+ghost use Rattle.std.specs.Prelude.{◌≡◌, IfOk, option_map};
 ghost use Rattle.uv_report.specs.Diagnostic as spec;
 ghost use Rattle.uv_sentences.specs.Places.Window as shown;
 
@@ -51,8 +51,6 @@ pub struct Diagnostic<'a> {
     pub uri: &'a str,
     /// What is wrong, as a sentence without its full stop.
     pub message: &'a str,
-    /// What else says where in the file it is, or nothing.
-    pub within: &'a str,
     /// The text, without its line end. If it isn't UTF-8, U+FFFD stands for what can't be read.
     pub text: &'a SeenText<'a>,
     /// The place at which it is wrong, in code points from 0.
@@ -78,16 +76,6 @@ impl<'a> Diagnostic<'a> {
         carried(alloc, self.text, self.place)
     }
 
-    /// The message, and after it what else says where in the file that is.
-    pub(crate) fn told(&self, alloc: Global) -> Result<CowStr<'a>, AllocError>
-        ensures { IfOk result (λ text. cow_str_bytes text ≡ spec.told self.now.message.now self.now.within.now) }
-    {
-        if self.within.is_empty() {
-            return Ok(CowStr::Borrowed(self.message));
-        }
-        Ok(CowStr::Owned(told_within(alloc, self.message, self.within)?))
-    }
-
     /// What to write in place of the text, and where, if that is offered and a program may write there.
     pub(crate) fn edit(&self) -> Option<(Region, Fix<'a>)>
         ensures { option_map spec.edit_view result ≡ spec.edit_of (spec.diagnostic_view self.now).fix }
@@ -109,11 +97,4 @@ impl<'a> Fix<'a> {
             None => None,
         }
     }
-}
-
-// A message, and after it what says where in the file that is.
-fn told_within(alloc: Global, message: &str, within: &str) -> Result<String, AllocError>
-    ensures { IfOk result (λ text. string_bytes text ≡ message.now ++ (codes ", in " ++ within.now)) }
-{
-    format!(in alloc; "{message}, in {within}")
 }

@@ -4,7 +4,7 @@ ghost use Rattle.std.specs.Cow.{cow_str_bytes};
 ghost use Rattle.std.specs.Prelude.{◌≡◌, ◌⊎◌, ◌++◌, IfErr, IfOk, OnErr, OnOk, string_bytes};
 ghost use Rattle.uv_report.specs.Diagnostic.{diagnostic_view};
 ghost use Rattle.uv_report.specs.Report.{begin_text, diagnostic_text, end_text, file_begin_text, file_end_text};
-ghost use Rattle.uv_report.specs.Report.{told_text};
+ghost use Rattle.uv_report.specs.Report.{separator};
 ghost use Rattle.uv_report.specs.declared.format.Format.TheVariants.{Checkstyle, Junit, Sarif};
 
 use crate::completion::Completion;
@@ -97,70 +97,40 @@ pub fn file_begin_of(alloc: Global, format: Format, file: &str) -> Result<String
     Ok(begin)
 }
 
-/// Pushes a diagnostic, which in the formats of compilers may have colours. In SARIF and in the formats of GitLab and
-/// reviewdog a comma comes before each except the first one of the report. If an allocation fails, the text stays as it
-/// was. Several diagnostics on one text take no more time than the text and what is written, if they come in the order
-/// of their places, and the text is led to each place before.
+/// What comes before a diagnostic: in SARIF and in the formats of GitLab and reviewdog a comma, except before the first
+/// one of the report.
+pub fn separator(format: Format, is_first: bool) -> &'static str
+    ensures { result.now ≡ separator format is_first }
+{
+    match (format, is_first) {
+        (Format::Sarif | Format::Gitlab | Format::Rdjson, false) => ",",
+        _ => "",
+    }
+}
+
+/// Pushes a diagnostic, which in the formats of compilers may have colours. If an allocation fails, a prefix of it was
+/// pushed. Several diagnostics on one text take no more time than the text and what is written, if they come in the
+/// order of their places, and the text is led to each place before.
 pub fn push(
     alloc: Global,
     text: &mut String,
     format: Format,
     look: Look,
-    diagnostic: &Diagnostic<'_>,
-    is_first: bool,
-) -> Result<(), AllocError>
-    ensures ok { OnOk result (string_bytes text.new
-        ≡ string_bytes text.old ++ diagnostic_text format look is_first (diagnostic_view diagnostic.now)) }
-    ensures err { OnErr result (string_bytes text.new ≡ string_bytes text.old) }
-{
-    let reported = reported(alloc, format, look, diagnostic, is_first)?;
-    text.push_str(reported.as_str())
-}
-
-// The text of a diagnostic.
-fn reported(
-    alloc: Global,
-    format: Format,
-    look: Look,
-    diagnostic: &Diagnostic<'_>,
-    is_first: bool,
-) -> Result<String, AllocError>
-    ensures { IfOk result (λ text. string_bytes text
-        ≡ diagnostic_text format look is_first (diagnostic_view diagnostic.now)) }
-{
-    let message = diagnostic.told(alloc)?;
-    let told = Diagnostic {
-        message: message.as_str(),
-        ..*diagnostic
-    };
-    // Room for most diagnostics: a text that grows piece by piece would often be moved.
-    let mut text = String::with_capacity(alloc, 1_000)?;
-    push_told(alloc, &mut text, format, look, &told, is_first)?;
-    Ok(text)
-}
-
-// Pushes a diagnostic with its whole message.
-fn push_told(
-    alloc: Global,
-    text: &mut String,
-    format: Format,
-    look: Look,
     found: &Diagnostic<'_>,
-    is_first: bool,
 ) -> Result<(), AllocError>
     ensures { OnOk result (string_bytes text.new
-        ≡ string_bytes text.old ++ told_text format look is_first (diagnostic_view found.now)) }
+        ≡ string_bytes text.old ++ diagnostic_text format look (diagnostic_view found.now)) }
 {
     match format {
         Format::Gnu => push_gnu(alloc, text, look, found),
         Format::Caret => push_caret(alloc, text, look, found),
         Format::Json => push_json(alloc, text, found),
         Format::Github => push_github(alloc, text, found),
-        Format::Sarif => push_sarif(alloc, text, found, is_first),
+        Format::Sarif => push_sarif(alloc, text, found),
         Format::Checkstyle => push_checkstyle(alloc, text, found),
         Format::Junit => push_junit(alloc, text, found),
-        Format::Gitlab => push_gitlab(alloc, text, found, is_first),
-        Format::Rdjson => push_rdjson(alloc, text, found, is_first),
+        Format::Gitlab => push_gitlab(alloc, text, found),
+        Format::Rdjson => push_rdjson(alloc, text, found),
     }
 }
 

@@ -164,6 +164,29 @@ static void diagnostics(void) {
     gives(pointed, "a.md:3:15: error: U+0020 SPACE is not allowed in a URL [code-point]\n");
 }
 
+/* What says where in the file a text is comes after the message, with the escapes of the format. */
+static void parts_of_files(void) {
+    urlcheck_reported it = space();
+    SAYS(&it, message, "no page is there");
+    SAYS(&it, within, "row <2>");
+    gives(diagnostic(URLCHECK_GNU, &it), "a.md:3:15: error: no page is there, in row <2> [code-point]\n");
+    const char *message = "message=\"no page is there, in row &lt;2&gt;\" source=";
+    expect(place_of(message, URLCHECK_CHECKSTYLE, &it) > 0, "what says where in the file a text is");
+}
+
+/* In a list of JSON a comma is before each diagnostic but the first one. */
+static void commas(void) {
+    urlcheck_reported it = space();
+    for (uint32_t format = URLCHECK_GNU; format <= URLCHECK_RDJSON; format++) {
+        int is_list = format == URLCHECK_SARIF || format == URLCHECK_GITLAB || format == URLCHECK_RDJSON;
+        urlcheck_written first = urlcheck_diagnostic(format, 0, 1, &it, out, sizeof out);
+        expect(out[0] != ',', "a comma before the first diagnostic");
+        urlcheck_written next = urlcheck_diagnostic(format, 0, 0, &it, out, sizeof out);
+        expect((out[0] == ',') == is_list && next.length == first.length + (size_t)is_list, "a comma between diagnostics");
+    }
+    memset(out, 7, sizeof out);
+}
+
 /* A text that isn't offered is in a note, but where the message says which part of the link is meant. */
 static void notes(void) {
     urlcheck_reported it = space();
@@ -528,6 +551,8 @@ int main(void) {
     messages();
     messages_against();
     diagnostics();
+    parts_of_files();
+    commas();
     notes();
     bad_diagnostics();
     rounds();

@@ -1,7 +1,7 @@
 //! A diagnostic on a text in a file. The caller gives each text that it has.
-ghost use Rattle.std.specs.Prelude.{◌≡◌, ◌==◌, ◌↔◌, IfOk, IsTrue, string_bytes};
+ghost use Rattle.std.specs.Cow.{cow_str_bytes};
+ghost use Rattle.std.specs.Prelude.{◌≡◌, ◌==◌, ◌↔◌, ◌++◌, IfOk, IsTrue, codes, string_bytes};
 ghost use Rattle.uv_report.specs.Diagnostic.{diagnostic_view};
-ghost use Rattle.uv_report.specs.Report.{diagnostic_text};
 ghost use Rattle.urlcheck_c.specs.Diagnostic.{IsDiagnosticAnswer, IsDiagnosticRead, IsFixRead, IsFixRegionRead};
 ghost use Rattle.urlcheck_c.specs.Diagnostic.{IsInOrder, IsRegion, IsTextFound, texts_view};
 ghost use Rattle.urlcheck_c.specs.Diagnostic as spec;
@@ -12,7 +12,8 @@ use crate::reports::report_numbers::{format_of, kind_of, look_of};
 use crate::request::text_of;
 use crate::written::{Written, given};
 use std::alloc::{AllocError, Global};
-use uv_report::{Diagnostic, Fix, Format, Look, Region, push};
+use std::borrow::CowStr;
+use uv_report::{Diagnostic, Fix, Format, Look, Region, push, separator};
 use uv_sentences::{SeenText, is_named};
 use uv_text::count_code_points;
 
@@ -109,25 +110,53 @@ fn written(
     };
     let seen = SeenText::new(text);
     match diagnostic_read(numbers, texts, &seen) {
-        Ok(diagnostic) => given(&said(alloc, format, look, &diagnostic, is_first), out),
+        Ok((diagnostic, within)) => given(
+            &said(alloc, format, look, is_first, &diagnostic, within),
+            out,
+        ),
         Err(found) => Written::none(found),
     }
 }
 
-// The text of a diagnostic.
+// The text of a diagnostic, whose message is followed by what else says where in the file it is.
 fn said(
     alloc: Global,
     format: Format,
     look: Look,
-    diagnostic: &Diagnostic<'_>,
     is_first: bool,
+    diagnostic: &Diagnostic<'_>,
+    within: &str,
 ) -> Result<String, AllocError>
     ensures { IfOk result (λ text. string_bytes text
-        ≡ diagnostic_text format look is_first (diagnostic_view diagnostic.now)) }
+        ≡ spec.said_text format look is_first (diagnostic_view diagnostic.now) within.now) }
 {
-    let mut text = String::new(alloc);
-    push(alloc, &mut text, format, look, diagnostic, is_first)?;
+    let message = told(alloc, diagnostic.message, within)?;
+    let whole = Diagnostic {
+        message: message.as_str(),
+        ..*diagnostic
+    };
+    // Room for most diagnostics: a text that grows piece by piece would often be moved.
+    let mut text = String::with_capacity(alloc, 1_000)?;
+    text.push_str(separator(format, is_first))?;
+    push(alloc, &mut text, format, look, &whole)?;
     Ok(text)
+}
+
+// A message, and after it what else says where in the file that is.
+fn told<'t>(alloc: Global, message: &'t str, within: &str) -> Result<CowStr<'t>, AllocError>
+    ensures { IfOk result (λ text. cow_str_bytes text ≡ spec.told message.entry.now within.now) }
+{
+    if within.is_empty() {
+        return Ok(CowStr::Borrowed(message));
+    }
+    Ok(CowStr::Owned(told_within(alloc, message, within)?))
+}
+
+// The same if something says so.
+fn told_within(alloc: Global, message: &str, within: &str) -> Result<String, AllocError>
+    ensures { IfOk result (λ text. string_bytes text ≡ message.now ++ (codes ", in " ++ within.now)) }
+{
+    format!(in alloc; "{message}, in {within}")
 }
 
 // The text that is wrong at a place, or why there isn't one.
@@ -141,12 +170,12 @@ fn text_found<'t>(bytes: &'t [u8], place: usize) -> Result<&'t str, Finding>
     Ok(text)
 }
 
-// The diagnostic on this text, or why the other arguments describe none.
+// The diagnostic on this text, with what else says where in the file it is; or why the other arguments describe none.
 fn diagnostic_read<'t>(
     numbers: &ReportedNumbers,
     texts: ReportedTexts<'t>,
     text: &'t SeenText<'t>,
-) -> Result<Diagnostic<'t>, Finding>
+) -> Result<(Diagnostic<'t>, &'t str), Finding>
     ensures { IsDiagnosticRead numbers.now (texts_view texts.entry) text.now result }
 {
     let file = text_of(texts.file, CallOutcome::FileNoUtf8)?;
@@ -158,18 +187,18 @@ fn diagnostic_read<'t>(
         return Err(Finding::plain(CallOutcome::NoColumn));
     }
     let fix = fix_read(numbers, texts.fix, text)?;
-    Ok(Diagnostic {
+    let diagnostic = Diagnostic {
         file,
         region: numbers.region,
         rule,
         uri,
         message,
-        within,
         text,
         place: numbers.place,
         repeat: numbers.repeat,
         fix,
-    })
+    };
+    Ok((diagnostic, within))
 }
 
 // What to write in place of this text, if the numbers say so; or why they are wrong.

@@ -1,10 +1,9 @@
 -- A diagnostic as an issue of a report of GitLab on the quality of code, and the array round the issues (GitLab Docs,
 -- Code Quality, report format).
-use Rattle.std.specs.Prelude.{ℕ, Bool, List, ◌++◌, codes}
+use Rattle.std.specs.Prelude.{ℕ, List, ◌++◌, codes}
 use Rattle.json.specs.Json.{Json, member, no_members, object, string}
 use Rattle.uv_report.specs.Diagnostic.{DiagnosticView}
 use Rattle.uv_report.specs.Formats.Fingerprint.{file_fingerprint}
-use Rattle.uv_report.specs.Formats.Sarif.{separator}
 use Rattle.uv_report.specs.Json.{json_text, whole}
 
 -- what the array begins with
@@ -30,6 +29,6 @@ issue_value found =
     (member (codes "location") (location_value found)
     (member (codes "severity") (string (codes "major")) no_members)))))
 
--- its text after a comma if it isn't the first, and a line feed
-unfoldable pub gitlab_text : Bool → DiagnosticView → List ℕ
-gitlab_text is_first found = separator is_first ++ (json_text (issue_value found) ++ codes "\n")
+-- its text, and a line feed
+unfoldable pub gitlab_text : DiagnosticView → List ℕ
+gitlab_text found = json_text (issue_value found) ++ codes "\n"

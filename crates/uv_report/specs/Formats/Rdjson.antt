@@ -1,10 +1,9 @@
 -- A diagnostic of reviewdog, and the document round the diagnostics (Reviewdog Diagnostic Format, rdjson).
-use Rattle.std.specs.Prelude.{ℕ, ◌==◌, Bool, List, ◌++◌, codes, if◌then◌else◌, length, Option, Some, None}
+use Rattle.std.specs.Prelude.{ℕ, ◌==◌, List, ◌++◌, codes, if◌then◌else◌, length, Option, Some, None}
 use Rattle.json.specs.Json.{Json, Members, member, no_members, object, string}
 use Rattle.uv_report.specs.declared.diagnostic.Region.{Region}
 use Rattle.uv_report.specs.Diagnostic.{DiagnosticView, FixView, edit_of}
 use Rattle.uv_report.specs.Json.{json_text, object_of, single, whole}
-use Rattle.uv_report.specs.Formats.Sarif.{separator}
 
 -- what the document begins with: who says it
 abbrev pub rdjson_begin : List ℕ
@@ -65,6 +64,6 @@ told_members found =
 abbrev pub rdjson_value : DiagnosticView → Json
 rdjson_value found = object (member (codes "code") (code_value found.uri found.rule) (told_members found))
 
--- its text after a comma if it isn't the first, and a line feed
-unfoldable pub rdjson_text : Bool → DiagnosticView → List ℕ
-rdjson_text is_first found = separator is_first ++ (json_text (rdjson_value found) ++ codes "\n")
+-- its text, and a line feed
+unfoldable pub rdjson_text : DiagnosticView → List ℕ
+rdjson_text found = json_text (rdjson_value found) ++ codes "\n"

@@ -1,6 +1,6 @@
 -- A diagnostic as a result of SARIF 2.1.0 (sections 3.27 to 3.30, and 3.55 to 3.57), and the document round the
 -- results.
-use Rattle.std.specs.Prelude.{ℕ, ◌==◌, Bool, true, false, List, [], ◌++◌, codes, flat_map, if◌then◌else◌, length}
+use Rattle.std.specs.Prelude.{ℕ, ◌==◌, List, [], ◌++◌, codes, flat_map, if◌then◌else◌, length}
 use Rattle.std.specs.Prelude.{Option, Some, None}
 use Rattle.json.specs.Json.{Json, Members, boolean, member, no_members, object, string}
 use Rattle.uv_model.specs.declared.mend_kind.MendKind.{MendKind}
@@ -193,11 +193,6 @@ members_with found (Some edit) = member (codes "fixes") (single (fix_value (uri_
 abbrev pub result_value : DiagnosticView → Json
 result_value found = object (members_with found (edit_of found.fix))
 
--- a comma before each result but the first
-abbrev pub separator : Bool → List ℕ
-separator true = []
-separator false = codes ","
-
--- its text after a comma if it isn't the first, and a line feed
-unfoldable pub sarif_text : Bool → DiagnosticView → List ℕ
-sarif_text is_first found = separator is_first ++ (json_text (result_value found) ++ codes "\n")
+-- its text, and a line feed
+unfoldable pub sarif_text : DiagnosticView → List ℕ
+sarif_text found = json_text (result_value found) ++ codes "\n"

@@ -6,24 +6,21 @@ ghost use Rattle.uv_report.specs.Formats.Gitlab as spec;
 
 use crate::diagnostic::Diagnostic;
 use crate::formats::fingerprint::file_fingerprint;
-use crate::formats::sarif::separator;
 use crate::json_text::{JsonText, Piece};
 use std::alloc::{AllocError, Global};
 
-/// Pushes an issue, and before it a comma if it isn't the first one.
+/// Pushes an issue.
 #[tactic(auto, unfolding(crate::specs::Formats::Gitlab::gitlab_text))]
 pub(crate) fn push_gitlab(
     alloc: Global,
     text: &mut String,
     found: &Diagnostic<'_>,
-    is_first: bool,
 ) -> Result<(), AllocError>
     ensures { OnOk result (string_bytes text.new
-        ≡ string_bytes text.old ++ spec.gitlab_text is_first (diagnostic_view found.now)) }
+        ≡ string_bytes text.old ++ spec.gitlab_text (diagnostic_view found.now)) }
 {
     let mut json = JsonText::new(alloc)?;
     write_issue(alloc, &mut json, found)?;
-    text.push_str(separator(is_first))?;
     json.push_to(text)?;
     text.push_str("\n")?;
     Ok(())

@@ -6,7 +6,6 @@ ghost use Rattle.uv_report.specs.Diagnostic.{diagnostic_view, edit_of, edit_view
 ghost use Rattle.uv_report.specs.Formats.Rdjson as spec;
 
 use crate::diagnostic::{Diagnostic, Fix, Region};
-use crate::formats::sarif::separator;
 use crate::json_text::{JsonText, Piece};
 use std::alloc::{AllocError, Global};
 
@@ -14,20 +13,18 @@ use std::alloc::{AllocError, Global};
 pub(crate) const RDJSON_BEGIN: &str =
     "{\"source\":{\"name\":\"urlcheck\"},\"severity\":\"ERROR\",\"diagnostics\":[\n";
 
-/// Pushes a diagnostic, and before it a comma if it isn't the first one.
+/// Pushes a diagnostic as an object.
 #[tactic(auto, unfolding(crate::specs::Formats::Rdjson::rdjson_text))]
 pub(crate) fn push_rdjson(
     alloc: Global,
     text: &mut String,
     found: &Diagnostic<'_>,
-    is_first: bool,
 ) -> Result<(), AllocError>
     ensures { OnOk result (string_bytes text.new
-        ≡ string_bytes text.old ++ spec.rdjson_text is_first (diagnostic_view found.now)) }
+        ≡ string_bytes text.old ++ spec.rdjson_text (diagnostic_view found.now)) }
 {
     let mut json = JsonText::new(alloc)?;
     write_diagnostic(&mut json, found)?;
-    text.push_str(separator(is_first))?;
     json.push_to(text)?;
     text.push_str("\n")?;
     Ok(())

@@ -168,30 +168,21 @@ fn write_text_rule(json: &mut JsonText, violation: LineViolation) -> Result<(), 
     Ok(())
 }
 
-/// Pushes a result, and before it a comma if it isn't the first one.
+/// Pushes a result.
 #[tactic(auto, unfolding(crate::specs::Formats::Sarif::sarif_text))]
 pub(crate) fn push_sarif(
     alloc: Global,
     text: &mut String,
     found: &Diagnostic<'_>,
-    is_first: bool,
 ) -> Result<(), AllocError>
     ensures { OnOk result (string_bytes text.new
-        ≡ string_bytes text.old ++ spec.sarif_text is_first (diagnostic_view found.now)) }
+        ≡ string_bytes text.old ++ spec.sarif_text (diagnostic_view found.now)) }
 {
     let mut json = JsonText::new(alloc)?;
     write_result(alloc, &mut json, found)?;
-    text.push_str(separator(is_first))?;
     json.push_to(text)?;
     text.push_str("\n")?;
     Ok(())
-}
-
-/// What is before a result, an issue or a diagnostic that isn't the first one: a comma.
-pub(crate) fn separator(is_first: bool) -> &'static str
-    ensures { result.now ≡ spec.separator is_first }
-{
-    if is_first { "" } else { "," }
 }
 
 // Writes the result of a diagnostic.

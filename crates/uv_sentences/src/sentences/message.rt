@@ -4,6 +4,7 @@ ghost use Rattle.std.specs.Prelude.{IfOk, string_bytes};
 ghost use Rattle.uv_sentences.specs.Sentences.Message.{IsMessage};
 
 use crate::escaping::escapes::push_shown;
+use crate::escaping::printable::is_printable_text;
 use crate::line_violation::LineViolation;
 use crate::places::seen_text::SeenText;
 use crate::sentences::code_point::point_name;
@@ -33,8 +34,10 @@ pub fn message(
     ensures { IfOk result (λ text. IsMessage (string_bytes text)) }
 {
     let said = violation_sentence(alloc, checked, line, violation)?;
-    // Room for most sentences.
-    let mut text = String::with_capacity(alloc, 100)?;
+    if is_printable_text(said.as_bytes()) {
+        return Ok(said);
+    }
+    let mut text = String::new(alloc);
     push_shown(&mut text, said.as_str())?;
     Ok(text)
 }
