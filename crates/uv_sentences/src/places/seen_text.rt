@@ -6,10 +6,11 @@ ghost use Rattle.uv_sentences.specs.Places.SeenText.{IsKnown, IsSpot};
 ghost use Rattle.uv_sentences.specs.Places.Window as shown;
 
 use crate::places::window::{is_longer, rest_in};
+use crate::sentences::authority::before_query;
 use crate::sentences::intention::{Intention, shown_intention};
 use crate::sentences::ipv6;
 use crate::sentences::message::{has_credentials_in, part_length};
-use crate::sentences::scheme::{Start, start_of};
+use crate::sentences::scheme::{Start, is_link, scheme_note, start_of};
 use std::marker::Model;
 use uv_model::first_code_point;
 
@@ -171,11 +172,27 @@ impl<'t> SeenText<'t> {
         }
     }
 
-    /// What the text begins with, and how long it is up to its query.
-    pub(crate) fn start(&self) -> Start {
+    /// Whether the text's scheme is one that `//` follows in links.
+    pub(crate) fn is_link(&self) -> bool {
         match self.known {
-            Some(known) => known.start,
-            None => start_of(self.text),
+            Some(known) => known.start.is_link,
+            None => is_link(self.text),
+        }
+    }
+
+    /// What the text's scheme requires of what follows it, or nothing.
+    pub(crate) fn scheme_note(&self) -> &'static str {
+        match self.known {
+            Some(known) => known.start.note,
+            None => scheme_note(self.text),
+        }
+    }
+
+    /// How many bytes come before the query and the fragment.
+    pub(crate) fn path_end(&self) -> usize {
+        match self.known {
+            Some(known) => known.start.path_end,
+            None => before_query(self.text).len(),
         }
     }
 

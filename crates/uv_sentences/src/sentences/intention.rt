@@ -54,16 +54,16 @@ const INTENTIONS: [Intention; 11] = [
 ];
 
 impl Intention {
-    // Whether a text with these marks shows it.
-    fn is_shown_by(self, text: &str, marks: Marks) -> bool {
+    // Whether a text shows it that has these marks, and its first `:` between these two texts.
+    fn is_shown_by(self, text: &str, marks: Marks, scheme: &str, rest: &str) -> bool {
         match self {
             Intention::Markup => is_markup(text),
             Intention::Template => is_template(text, marks),
             Intention::WindowsPath => is_windows_path(text.as_bytes()),
             Intention::DriveLetter => marks.has(b'|') && has_barred_drive(text),
-            Intention::TwoSchemes => has_two_schemes(text),
-            Intention::HostAsScheme => has_host_as_scheme(text),
-            Intention::Misspelled => has_misspelled_scheme(text),
+            Intention::TwoSchemes => has_two_schemes(scheme, rest),
+            Intention::HostAsScheme => has_host_as_scheme(scheme, rest),
+            Intention::Misspelled => has_misspelled_scheme(scheme, rest),
             Intention::LaterLink => marks.has(b' ') && has_later_link(text),
             Intention::LaterText => marks.has(b' ') && has_later_text(text),
             Intention::OldEscape => marks.has(b'%') && has_old_escape(after(text, '%')),
@@ -98,9 +98,10 @@ impl Intention {
 /// What a text by itself shows.
 pub(crate) fn shown_intention(text: &str) -> Option<Intention> {
     let marks = Marks::of(text);
+    let (scheme, rest) = text.split_once(':').unwrap_or((text, ""));
     INTENTIONS
         .iter()
-        .find(|intention| intention.is_shown_by(text, marks))
+        .find(|intention| intention.is_shown_by(text, marks, scheme, rest))
         .copied()
 }
 
@@ -122,10 +123,11 @@ pub fn is_named(text: &SeenText<'_>) -> bool {
 // drive letter that it begins with by a segment `.`; another address; or a path or a topic that the rules of its scheme
 // don't accept.
 fn is_another(text: &str, mended: &str) -> bool {
-    (has_piece(mended, "/./") && !has_piece(text, "/./"))
-        || has_other_address(text, mended)
-        || has_other_path(text, mended)
-        || has_other_topic(text, mended)
+    let scheme = before(mended, ':');
+    has_other_address(text, mended)
+        || (is_ruled(scheme) && !has_piece(text, before_query(mended)))
+        || (is_name(scheme, "magnet") && has_other_topic(text, mended))
+        || (has_piece(mended, "/./") && !has_piece(text, "/./"))
 }
 
 // Whether a text begins with `<`, and has a space after the name there, or `</` anywhere.
@@ -145,16 +147,20 @@ fn is_windows_path(text: &[u8]) -> bool {
     }
 }
 
-// Whether a text begins with a scheme that `//` follows, its `:` and up to two slashes, and then another one begins a
-// link.
-fn has_two_schemes(text: &str) -> bool {
-    is_link_scheme(before(text, ':')) && begins_link(without_slash(without_slash(after(text, ':'))))
+// Whether what comes before the first `:` of a text is a scheme that `//` follows in links, and a link begins after it
+// and up to two slashes.
+fn has_two_schemes(scheme: &str, rest: &str) -> bool {
+    begins_link(without_slash(without_slash(rest))) && is_link_scheme(scheme)
 }
 
 // Whether a text begins with such a scheme and then `://`, or only `//`.
 fn begins_link(text: &str) -> bool {
-    let front = before(text, '/');
-    after(text, '/').starts_with('/') && is_link_scheme(front.strip_suffix(':').unwrap_or(front))
+    match text.split_once('/') {
+        Some((front, rest)) => {
+            rest.starts_with('/') && is_link_scheme(front.strip_suffix(':').unwrap_or(front))
+        }
+        None => false,
+    }
 }
 
 // Whether a space that isn't the first code point is before the beginning of a link.
@@ -219,17 +225,10 @@ fn has_other_address(text: &str, mended: &str) -> bool {
         && !has_piece(text, host)
 }
 
-// Whether the mended text's path belongs to a scheme with rules for it, and isn't in the text.
-fn has_other_path(text: &str, mended: &str) -> bool {
-    is_ruled(before(mended, ':')) && !has_piece(text, before_query(mended))
-}
-
-// Whether the mended text is a magnet link to a topic that isn't in the text.
+// Whether the mended text is a link to a topic that isn't in the text.
 fn has_other_topic(text: &str, mended: &str) -> bool {
     match mended.split_once("xt=") {
-        Some((front, rest)) => {
-            is_name(before(front, ':'), "magnet") && !has_piece(text, before(rest, '&'))
-        }
+        Some((_, rest)) => !has_piece(text, before(rest, '&')),
         None => false,
     }
 }

@@ -5,40 +5,39 @@
 #[derive(Clone, Copy)]
 pub(crate) struct Marks {
     // One bit a mark.
-    bits: u16,
+    bits: u8,
 }
 
 impl Marks {
     /// The marks of a text.
     pub(crate) fn of(text: &str) -> Marks {
-        Marks {
-            bits: text.bytes().fold(0, |seen, b| seen | bit_of(b)),
+        // Each byte is compared with each mark, so that the compiler can look at many at once.
+        let mut bits = 0;
+        for &byte in text.as_bytes() {
+            bits = bits | bit_of(byte);
         }
+        Marks { bits }
     }
 
     /// Whether the text has this mark.
     pub(crate) fn has(self, mark: u8) -> bool {
         self.bits & bit_of(mark) != 0
     }
-
-    /// Whether the text has none of them.
-    pub(crate) fn is_empty(self) -> bool {
-        self.bits == 0
-    }
 }
 
 // The bit of a mark; 0 of all else.
-fn bit_of(b: u8) -> u16 {
-    match b {
-        b' ' => 1,
-        b'$' => 2,
-        b'%' => 4,
-        b'<' => 8,
-        b'@' => 16,
-        b'[' => 32,
-        b'_' => 64,
-        b'{' => 128,
-        b'|' => 256,
-        _ => 0,
-    }
+fn bit_of(byte: u8) -> u8 {
+    bit_if(byte == b' ', 1)
+        | bit_if(byte == b'$', 2)
+        | bit_if(byte == b'%', 4)
+        | bit_if(byte == b'<', 8)
+        | bit_if(byte == b'@', 16)
+        | bit_if(byte == b'[', 32)
+        | bit_if(byte == b'{', 64)
+        | bit_if(byte == b'|', 128)
+}
+
+// The bit if that holds, and otherwise 0.
+fn bit_if(holds: bool, bit: u8) -> u8 {
+    if holds { bit } else { 0 }
 }

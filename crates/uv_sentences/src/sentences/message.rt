@@ -94,7 +94,7 @@ fn refusal_sentence(
 
 // The sentence on credentials. Links of other schemes than the special ones may need them.
 fn credentials_sentence(alloc: Global, line: &SeenText<'_>) -> Result<String, AllocError> {
-    let advice = if line.start().is_link {
+    let advice = if line.is_link() {
         "; leave them out"
     } else {
         ""

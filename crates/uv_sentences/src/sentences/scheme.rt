@@ -2,7 +2,7 @@
 
 use crate::sentences::authority::{before_end, before_query};
 use crate::sentences::intention::is_link_scheme;
-use crate::sentences::pieces::{after, before, has_piece};
+use crate::sentences::pieces::{before, has_piece};
 use uv_model::is_name;
 
 /// What a text shows before its query and fragment, which is the same at each of its places.
@@ -18,16 +18,21 @@ pub(crate) struct Start {
 
 /// What a text shows before its query and fragment.
 pub(crate) fn start_of(text: &str) -> Start {
-    let scheme = before(text, ':');
     Start {
-        is_link: is_link_scheme(scheme),
-        note: scheme_note(scheme),
+        is_link: is_link(text),
+        note: scheme_note(text),
         path_end: before_query(text).len(),
     }
 }
 
-// What a scheme requires of what follows it, if it has a rule of its own.
-fn scheme_note(scheme: &str) -> &'static str {
+/// Whether a text's scheme is one that `//` follows in links.
+pub(crate) fn is_link(text: &str) -> bool {
+    is_link_scheme(before(text, ':'))
+}
+
+/// What a text's scheme requires of what follows it, if it has a rule of its own, or nothing.
+pub(crate) fn scheme_note(text: &str) -> &'static str {
+    let scheme = before(text, ':');
     if is_name(scheme, "mailto") {
         return "; write addresses as in mailto:a@example.com";
     }
@@ -49,10 +54,9 @@ fn scheme_note(scheme: &str) -> &'static str {
     ""
 }
 
-/// Whether a text begins with a host, `:` and the digits of a port.
-pub(crate) fn has_host_as_scheme(text: &str) -> bool {
-    let host = before(text, ':');
-    (is_name(host, "localhost") || is_dotted_name(host)) && is_number(before_end(after(text, ':')))
+/// Whether what comes before and after the first `:` of a text is a host and the digits of a port.
+pub(crate) fn has_host_as_scheme(host: &str, rest: &str) -> bool {
+    (is_name(host, "localhost") || is_dotted_name(host)) && is_number(before_end(rest))
 }
 
 // Whether a text is of digits, at least one.
@@ -69,11 +73,10 @@ fn is_dotted_name(host: &str) -> bool {
             .all(|b| b.is_ascii_alphanumeric() || b == b'-' || b == b'.')
 }
 
-/// Whether `://` follows a scheme that is neither `http` nor `https`, and has only their letters, `t` and `p` among
-/// them.
-pub(crate) fn has_misspelled_scheme(text: &str) -> bool {
-    let scheme = before(text, ':');
-    after(text, ':').starts_with("//")
+/// Whether `//` comes after the first `:` of a text, and before it a scheme that is neither `http` nor `https`, and has
+/// only their letters, `t` and `p` among them.
+pub(crate) fn has_misspelled_scheme(scheme: &str, rest: &str) -> bool {
+    rest.starts_with("//")
         && !is_link_scheme(scheme)
         && has_piece(scheme, "t")
         && has_piece(scheme, "p")

@@ -11,7 +11,7 @@ use uv_model::is_name;
 pub(crate) fn is_template(text: &str, marks: Marks) -> bool {
     has_sure_sign(text, marks)
         || (has_other_sign(text, marks) && !is_code(before(text, ':')))
-        || has_named_authority(authority_of(text), marks)
+        || has_named_authority(authority_of(text))
 }
 
 // Whether a scheme is one whose URLs are code.
@@ -152,10 +152,9 @@ fn is_byte_of_names(b: u8) -> bool {
 }
 
 // Whether `port` is in place of an authority's port, or a name in capitals with `_` in place of its host.
-fn has_named_authority(authority: &str, marks: Marks) -> bool {
+fn has_named_authority(authority: &str) -> bool {
     let (host, port) = authority.split_once(':').unwrap_or((authority, ""));
-    is_name(port, "port")
-        || (marks.has(b'_') && host.as_bytes().contains(&b'_') && is_in_capitals(host))
+    is_name(port, "port") || (is_in_capitals(host) && host.as_bytes().contains(&b'_'))
 }
 
 // Whether a name in capitals and a mark begin a text.

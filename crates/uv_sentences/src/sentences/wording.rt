@@ -69,7 +69,7 @@ pub(crate) fn rule_note(
         Rule::FirstSegmentEmpty => format!(in alloc; "; write one slash, or use {profile}"),
         Rule::NoScheme => start_note(alloc, checked.wording, line),
         Rule::CodePoint if is_in_path(line, refusal.place) => {
-            String::from_str(alloc, line.start().note)
+            String::from_str(alloc, line.scheme_note())
         }
         Rule::Percent => String::from_str(alloc, escape_note(line.rest_at(refusal.place))),
         _ if profile.is_empty() => Ok(String::new(alloc)),
@@ -98,7 +98,7 @@ fn is_in_path(line: &SeenText<'_>, place: usize) -> bool {
         .as_str()
         .len()
         .saturating_sub(line.rest_at(place).len());
-    ahead < line.start().path_end
+    ahead < line.path_end()
 }
 
 // The sentence on a `%`, if it has one hex digit after it and the text or the next escape comes then.
