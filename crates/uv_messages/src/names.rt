@@ -20,8 +20,8 @@ pub(crate) fn longer_names<'n>(
 }
 
 /// The nearest of the names, if at most a third of the word's letters, or one letter of a shorter word, has to be
-/// changed, removed, added or swapped with the next one, ignoring case. Of two that are as near, it is one that begins
-/// with the word, or else the first.
+/// changed, removed, added or swapped with the next one, ignoring case. A name that begins with the word goes before
+/// another one that is as near.
 pub(crate) fn nearest<'n>(
     alloc: Global,
     word: &str,
