@@ -108,9 +108,9 @@ pub fn separator(format: Format, is_first: bool) -> &'static str
     }
 }
 
-/// Pushes a diagnostic, which in the formats of compilers may have colours. If an allocation fails, a prefix of it was
-/// pushed. Several diagnostics on one text take no more time than the text and what is written, if they come in the
-/// order of their places, and the text is led to each place before.
+/// Pushes a diagnostic, which in the formats of compilers may have colours. If an allocation fails, what the text holds
+/// is open, and it has to be cleared. Several diagnostics on one text take no more time than the text and what is
+/// written, if they come in the order of their places, and the text is led to each place before.
 pub fn push(
     alloc: Global,
     text: &mut String,
