@@ -1,9 +1,9 @@
 //! A diagnostic for the tests.
-ghost use Rattle.std.specs.Prelude.{◌≡◌, ◌+◌, ◌-◌, ◌^◌, [], None, min};
+ghost use Rattle.std.specs.Prelude.{◌≡◌, ◌+◌, ◌-◌, ◌^◌, [], None, min, true};
 ghost use Rattle.uv_report.specs.Diagnostic.{diagnostic_view};
 
 use uv_report::{Diagnostic, Region};
-use uv_sentences::SeenText;
+use uv_shown::SeenText;
 
 /// A diagnostic on the third line of a file, on a text that begins its line and violates a rule at a place.
 pub fn refused<'a>(
@@ -22,10 +22,13 @@ pub fn refused<'a>(
         end_column = min (place + 2) (2 ^ 64 - 1);
       };
       rule = rule.now;
+      index = None;
       uri = [];
       message = message.now;
       text = text.now;
+      is_shown = true;
       place = place;
+      named = place;
       repeat = 0;
       fix = None;
     } }
@@ -39,10 +42,13 @@ pub fn refused<'a>(
             end_column: (place as u64).saturating_add(2),
         },
         rule,
+        index: None,
         uri: "",
         message,
         text,
+        is_shown: true,
         place,
+        named: place,
         repeat: 0,
         fix: None,
     }

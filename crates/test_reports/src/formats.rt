@@ -8,13 +8,18 @@ use std::process::Abort;
 use std::test::Fail;
 use uv_model::{MendKind, Profile, Refusal, Rule};
 use uv_report::{Completion, Diagnostic, Fix, Format, Region, end_of};
-use uv_sentences::{Checked, LineViolation, SeenText, Wording, message};
+use uv_rules::LineViolation;
+use uv_sentences::{Checked, KnownText, Wording, message};
+use uv_shown::SeenText;
 
 // If no text is carried, there is no line to show and no place below it.
 #[test]
 fn shows_no_line_without_a_text(rt: HostRuntime) -> Result<(), Fail> {
     let none = SeenText::new("");
-    let found = refused("-", "not-utf8", "this line isn't UTF-8", 0, &none);
+    let found = Diagnostic {
+        is_shown: false,
+        ..refused("-", "not-utf8", "this line isn't UTF-8", 0, &none)
+    };
     let text = report(rt.alloc(), Format::Caret, &found)?;
     assert!(rt; text.as_str() == "-:3:1: error: this line isn't UTF-8 [not-utf8]\n");
     Ok(())
@@ -27,7 +32,10 @@ fn takes_a_rule_of_the_callers_own(rt: HostRuntime) -> Result<(), Fail> {
     let found = refused("f", "own", "no page is there", 0, &link);
     let sarif = report(rt.alloc(), Format::Sarif, &found)?;
     assert!(rt; sarif.contains("\"text\":\"page.html\"},\"ruleId\":\"own\"}\n"));
-    let known = refused("f", "no-scheme", "there is no scheme", 0, &link);
+    let known = Diagnostic {
+        index: Some(3),
+        ..refused("f", "no-scheme", "there is no scheme", 0, &link)
+    };
     let sarif = report(rt.alloc(), Format::Sarif, &known)?;
     assert!(rt; sarif.contains("\"ruleId\":\"no-scheme\",\"ruleIndex\":3}\n"));
     Ok(())
@@ -119,7 +127,7 @@ fn edits_no_file_without_a_region(rt: HostRuntime) -> Result<(), Fail> {
 
 #[test]
 fn says_no_more_of_a_domain_with_nothing_wrong(rt: HostRuntime) -> Result<(), Fail> {
-    let link = SeenText::new("http://-a--b-");
+    let link = KnownText::new("http://-a--b-");
     let violation = LineViolation::Refused(Refusal {
         place: 7,
         rule: Rule::HostDomain,
@@ -129,8 +137,8 @@ fn says_no_more_of_a_domain_with_nothing_wrong(rt: HostRuntime) -> Result<(), Fa
         accepted_by: None,
         wording: Wording::Options,
     };
-    let text = message(rt.alloc(), checked, &link, violation)?;
-    assert!(rt; text.as_str() == "the host that begins here is not a valid domain");
+    let said = message(rt.alloc(), checked, &link, violation)?;
+    assert!(rt; said.text.as_str() == "the host that begins here is not a valid domain");
     Ok(())
 }
 

@@ -2,9 +2,10 @@
 
 use std::alloc::{AllocError, Global};
 use uv_report::{
-    Columns, Completion, Diagnostic, Format, Look, end_of, push, push_begin, push_file_begin,
-    push_file_end,
+    Columns, Completion, Diagnostic, Format, Look, begin_of, end_of, file_begin_of, file_end_of,
+    push,
 };
+use uv_rules::shown_rules;
 
 /// A report on one diagnostic.
 pub(crate) fn report(
@@ -13,10 +14,11 @@ pub(crate) fn report(
     diagnostic: &Diagnostic<'_>,
 ) -> Result<String, AllocError> {
     let mut text = String::new(alloc);
-    push_begin(alloc, &mut text, format, Columns::CodePoints)?;
-    push_file_begin(alloc, &mut text, format, diagnostic.file)?;
+    let rules = shown_rules();
+    text.push_str(begin_of(alloc, format, Columns::CodePoints, rules.as_slice())?.as_str())?;
+    text.push_str(file_begin_of(alloc, format, diagnostic.file)?.as_str())?;
     push(alloc, &mut text, format, Look::Plain, diagnostic)?;
-    push_file_end(&mut text, format)?;
+    text.push_str(file_end_of(format))?;
     text.push_str(end_of(format, Completion::Whole))?;
     Ok(text)
 }

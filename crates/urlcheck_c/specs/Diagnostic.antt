@@ -1,6 +1,6 @@
 -- A diagnostic on a text that is in a file, by numbers and bytes.
 use Rattle.std.specs.Prelude.{◌≡◌, ◌≢◌, ℕ, ◌⊎◌, ◌==◌, ◌&&◌, ◌≤◌, ◌<◌, not, Bool, true, false, List, ◌++◌, codes, length}
-use Rattle.std.specs.Prelude.{if◌then◌else◌, None, Option, Some, Result, Ok, Err, IsUtf8}
+use Rattle.std.specs.Prelude.{◌||◌, if◌then◌else◌, is_none, max, None, Option, Some, Result, Ok, Err, IsUtf8}
 use Rattle.std.specs.Borrow.{Bor}
 use Rattle.std.specs.Str.{chars}
 use Rattle.uv_report.specs.declared.diagnostic.Diagnostic.{Diagnostic}
@@ -10,6 +10,7 @@ use Rattle.uv_report.specs.declared.format.Format.{Format}
 use Rattle.uv_report.specs.declared.look.Look.{Look}
 use Rattle.uv_report.specs.Diagnostic.{DiagnosticView, FixView, diagnostic_view, fix_view}
 use Rattle.uv_report.specs.Report.{diagnostic_text, separator}
+use Rattle.uv_rules.specs.LineViolation.{named_violation, rule_index}
 use Rattle.urlcheck_c.specs.declared.reports.diagnostics.ReportedNumbers.{ReportedNumbers}
 use Rattle.urlcheck_c.specs.declared.reports.diagnostics.ReportedTexts as code
 use Rattle.urlcheck_c.specs.declared.finding.Finding.{Finding}
@@ -123,6 +124,15 @@ IsTextFound bytes place (Err finding) = IsNoTextAt bytes place finding
 
 -- ---- the diagnostic
 
+-- the place of the code point that the message names: not before the place that it is about
+abbrev pub named_place : ReportedNumbers → ℕ
+named_place numbers = max numbers.place numbers.named
+
+-- a text is shown that violates the rule with this name: one that isn't empty, or also an empty one, but by the rules of
+-- lines that aren't checked
+abbrev pub is_shown : List ℕ → List ℕ → Bool
+is_shown rule text = not (length text == 0) || is_none (named_violation rule)
+
 -- The numbers and the bytes say this diagnostic on the text.
 pub record IsDiagnostic (numbers : ReportedNumbers) (texts : ReportedTexts) (text : List ℕ) (found : DiagnosticView)
     : Type 0 where
@@ -137,10 +147,13 @@ pub record IsDiagnostic (numbers : ReportedNumbers) (texts : ReportedTexts) (tex
     file = texts.file;
     region = numbers.region;
     rule = texts.rule;
+    index = rule_index texts.rule;
     uri = texts.uri;
     message = texts.message;
     text = text;
+    is_shown = is_shown texts.rule text;
     place = numbers.place;
+    named = named_place numbers;
     repeat = numbers.repeat;
     fix = found.fix;
   }
@@ -177,8 +190,8 @@ said_text format look is_first found within =
 -- There is no text, or no diagnostic on it, and nothing was written; or its text is given.
 abbrev pub IsReportedAnswer : Format → Look → Bool → ReportedNumbers → ReportedTexts → List ℕ → List ℕ → Written → Type 0
 IsReportedAnswer format look is_first numbers texts old new answer =
-    ((finding : Finding) × IsNoTextAt texts.text numbers.place finding × IsUnwritten finding old new answer)
-    ⊎ (IsText texts.text numbers.place
+    ((finding : Finding) × IsNoTextAt texts.text (named_place numbers) finding × IsUnwritten finding old new answer)
+    ⊎ (IsText texts.text (named_place numbers)
     × (((finding : Finding) × IsNoDiagnostic numbers texts finding × IsUnwritten finding old new answer)
     ⊎ ((found : DiagnosticView) × IsDiagnostic numbers texts texts.text found
     × IsGiven (said_text format look is_first found texts.within) old new answer)))

@@ -54,6 +54,11 @@ byte_place bytes place = length (encode_utf8_all (take place (chars bytes)))
 abbrev pub plain_finding : CallOutcome → Finding
 plain_finding outcome = record { verdict = outcome_number outcome; rule = 0; place = 0; byte_place = 0 }
 
+-- a place of a text
+abbrev pub placed_finding : CallOutcome → List ℕ → ℕ → Finding
+placed_finding outcome bytes place =
+    record { verdict = outcome_number outcome; rule = 0; place = place; byte_place = byte_place bytes place }
+
 -- a text that is refused, with its rule and its place
 abbrev pub refused_finding : CallOutcome → List ℕ → Refusal → Finding
 refused_finding outcome bytes refusal = record {

@@ -4,15 +4,15 @@ use Rattle.std.specs.Borrow.{Bor}
 use Rattle.std.specs.Int.{is_in_range}
 use Rattle.uv_model.specs.declared.rule.Rule.{Rule}
 use Rattle.uv_report.specs.declared.format.Format.{Format}
-use Rattle.uv_sentences.specs.declared.rules.explanation.Explanation.{Explanation}
-use Rattle.uv_sentences.specs.declared.line_violation.LineViolation.{LineViolation}
-use Rattle.uv_sentences.specs.declared.line_violation.LineViolation.TheVariants.{Refused}
+use Rattle.uv_rules.specs.declared.explanation.Explanation.{Explanation}
+use Rattle.uv_rules.specs.declared.line_violation.LineViolation.{LineViolation}
+use Rattle.uv_rules.specs.declared.line_violation.LineViolation.TheVariants.{Refused}
 use Rattle.uv_report.specs.declared.places.column.Columns.{Columns}
 use Rattle.uv_report.specs.Format.{format_name}
-use Rattle.uv_sentences.specs.LineViolation.{violation_address, violation_name}
+use Rattle.uv_rules.specs.LineViolation.{violation_address, violation_name}
 use Rattle.uv_report.specs.Places.Column.{columns_name}
-use Rattle.uv_sentences.specs.Escaping.Printable.{IsLine}
-use Rattle.uv_sentences.specs.Rules.Explanation.{rule_place}
+use Rattle.uv_shown.specs.Escaping.Printable.{IsLine}
+use Rattle.uv_rules.specs.Explanation.{rule_place}
 use Rattle.urlcheck_c.specs.Buffer.{IsWritten}
 use Rattle.urlcheck_c.specs.Names.{rule_with_number}
 use Rattle.urlcheck_c.specs.ReportNumbers.{format_of, unit_of, violation_of}

@@ -7,6 +7,7 @@ use Rattle.uv_report.specs.declared.format.Format.TheVariants.{Sarif, Checkstyle
 use Rattle.uv_report.specs.Format.{takes_columns}
 use Rattle.uv_report.specs.Format as reported
 use Rattle.uv_report.specs.Report.{begin_text, end_text, file_begin_text, file_end_text}
+use Rattle.uv_rules.specs.RuleList.{listed_rules}
 use Rattle.urlcheck_c.specs.declared.finding.Finding.{Finding}
 use Rattle.urlcheck_c.specs.declared.finding.CallOutcome.TheVariants.{NoFormat, NoUnit, NoCompletion, FileNoUtf8, Memory}
 use Rattle.urlcheck_c.specs.declared.written.Written.{Written}
@@ -17,7 +18,7 @@ use Rattle.urlcheck_c.specs.Written.{IsRefusedFor, IsTextGiven, IsUnwritten}
 -- What a report begins with is given. Or memory ran out, which it may only in SARIF.
 abbrev pub IsBeginGiven : Format → Columns → List ℕ → List ℕ → Written → Type 0
 IsBeginGiven format columns old new answer =
-    IsTextGiven (begin_text format columns) old new answer
+    IsTextGiven (begin_text format columns listed_rules) old new answer
     ⊎ ((format ≡ Sarif) × IsRefusedFor Memory old new answer)
 
 -- No format has the number; or no unit has, or the format has no word for it; otherwise what a report begins with is

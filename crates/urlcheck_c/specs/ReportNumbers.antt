@@ -12,10 +12,10 @@ use Rattle.uv_report.specs.declared.format.Format.TheVariants.{Gnu, Caret, Json,
 use Rattle.uv_report.specs.declared.format.Format.TheVariants.{Junit, Gitlab, Rdjson}
 use Rattle.uv_report.specs.declared.look.Look.{Look}
 use Rattle.uv_report.specs.declared.look.Look.TheVariants.{Plain, Coloured}
-use Rattle.uv_sentences.specs.declared.line_violation.LineViolation.{LineViolation}
-use Rattle.uv_sentences.specs.declared.line_violation.LineViolation.TheVariants.{Refused, NotUtf8, TooLong, NotLocated}
-use Rattle.uv_sentences.specs.declared.located_fault.LocatedFault.TheVariants.{NoFile, NoLine, LineRange, NoColumn}
-use Rattle.uv_sentences.specs.declared.located_fault.LocatedFault.TheVariants.{ColumnRange, NoLink}
+use Rattle.uv_rules.specs.declared.line_violation.LineViolation.{LineViolation}
+use Rattle.uv_rules.specs.declared.line_violation.LineViolation.TheVariants.{Refused, NotUtf8, TooLong, NotLocated}
+use Rattle.uv_rules.specs.declared.located_fault.LocatedFault.TheVariants.{NoFile, NoLine, LineRange, NoColumn}
+use Rattle.uv_rules.specs.declared.located_fault.LocatedFault.TheVariants.{ColumnRange, NoLink}
 use Rattle.urlcheck_c.specs.Names.{rule_with_number}
 
 -- the format with a number

@@ -2,7 +2,8 @@
 ghost use Rattle.std.specs.Prelude.{◌≡◌, IsUtf8, length};
 ghost use Rattle.std.specs.Str.{IsValidUpTo, chars};
 ghost use Rattle.std.specs.Str.Lossy.{utf8_valid_len};
-ghost use Rattle.urlcheck_c.specs.Finding.{no_utf8_finding, outcome_number, plain_finding, refused_finding};
+ghost use Rattle.urlcheck_c.specs.Finding.{no_utf8_finding, outcome_number, placed_finding, plain_finding};
+ghost use Rattle.urlcheck_c.specs.Finding.{refused_finding};
 
 use crate::places::byte_place;
 use simdutf8::compat::from_utf8;
@@ -19,9 +20,10 @@ pub struct Finding {
     pub verdict: u32,
     /// The number of the violated rule, from 1 to 14, if the text or the base is refused, otherwise 0.
     pub rule: u32,
-    /// The first wrong place, in code points from 0: of the text or, if the verdict is about the base, of the base.
+    /// The first wrong place, in code points from 0: of the text or, if the verdict is about the base, of the base. If a
+    /// message is given, the place of the code point that it names.
     pub place: usize,
-    /// The first wrong place, in bytes from 0: of the text or, if the verdict is about the base, of the base.
+    /// The same place, in bytes from 0.
     pub byte_place: usize,
 }
 
@@ -116,6 +118,18 @@ impl Finding {
             rule: 0,
             place: 0,
             byte_place: 0,
+        }
+    }
+
+    /// A place of a text.
+    pub(crate) fn placed(outcome: CallOutcome, text: &str, place: usize) -> Finding
+        ensures { result ≡ placed_finding outcome text.now place }
+    {
+        Finding {
+            verdict: outcome.number(),
+            rule: 0,
+            place,
+            byte_place: byte_place(text, place),
         }
     }
 

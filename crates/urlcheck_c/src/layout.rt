@@ -38,6 +38,6 @@ const _: () = prove!(size_of::<Written>() == 32);
 
 const _: () = prove!(size_of::<Counted>() == 32);
 
-const _: () = prove!(size_of::<ReportedNumbers>() == 88);
+const _: () = prove!(size_of::<ReportedNumbers>() == 96);
 
 const _: () = prove!(size_of::<Line>() == 56);

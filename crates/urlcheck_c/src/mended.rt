@@ -12,7 +12,7 @@ use std::alloc::{AllocError, Global};
 use uv_grammar::{Verdict, check};
 use uv_mend::{MendKind, Mending, mend_refused};
 use uv_model::Refusal;
-use uv_sentences::{SeenText, is_offered};
+use uv_sentences::{KnownText, is_offered};
 
 /// What a text is, and what was made of it.
 #[repr(C)]
@@ -86,7 +86,7 @@ fn said(text: &str, mending: &Mending, out: &mut [u8]) -> Mended
         Mending::Mended { text: mended, kind } => Mended {
             found: Finding::plain(CallOutcome::Mended),
             kind: kind_number(*kind),
-            offered: u32::from(is_offered(&SeenText::new(text), mended.as_str())),
+            offered: u32::from(is_offered(&KnownText::new(text), mended.as_str())),
             length: write_prefix(mended.as_bytes(), out),
         },
         Mending::Refused(refusal) => {

@@ -16,6 +16,7 @@ use crate::request::text_of;
 use crate::written::{Written, text_given};
 use std::alloc::{AllocError, Global};
 use uv_report::{Columns, Format, begin_of, end_of, file_begin_of, file_end_of};
+use uv_rules::shown_rules;
 
 /// Writes what a report begins with, in the format with this number and with columns in the unit with this number.
 #[unsafe(no_mangle)]
@@ -43,7 +44,8 @@ pub extern "C" fn urlcheck_report_begin(
 fn begin_given(alloc: Global, format: Format, columns: Columns, out: &mut [u8]) -> Written
     ensures { IsBeginGiven format columns out.old out.new result }
 {
-    match begin_of(alloc, format, columns) {
+    let rules = shown_rules();
+    match begin_of(alloc, format, columns, rules.as_slice()) {
         Ok(text) => text_given(text.as_str(), out),
         Err(AllocError) => Written::refused(CallOutcome::Memory),
     }

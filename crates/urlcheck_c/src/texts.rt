@@ -3,14 +3,14 @@ ghost use Rattle.std.specs.Int.{is_in_range};
 ghost use Rattle.std.specs.Prelude.{◌≡◌, ◌≢◌, [], Some, false, true};
 ghost use Rattle.urlcheck_c.specs.FixedText.{IsFixedText, IsTextAnswer, example_place, format_name_or_none, has_words};
 ghost use Rattle.urlcheck_c.specs.FixedText.{explanation_text, unit_name_or_none, violation_text};
-ghost use Rattle.uv_sentences.specs.Escaping.Printable.{IsLine};
+ghost use Rattle.uv_shown.specs.Escaping.Printable.{IsLine};
 ghost use Rattle.urlcheck_c.specs.ReportNumbers as spec;
 
 use crate::buffers::write_prefix;
 use crate::names::rule_of;
 use crate::reports::report_numbers::{format_of, unit_of, violation_of};
 use uv_model::Rule;
-use uv_sentences::{Explanation, LineViolation, explain};
+use uv_rules::{Explanation, LineViolation, explain};
 
 /// Writes a fixed text to the start of `out` if it fits, and gives its length, which is 0 if there is none. The first
 /// number says what is asked for, and the second what it is about. For a rule of texts or of lines: 0 its name, 1 its

@@ -16,6 +16,7 @@ use Rattle.uv_report.specs.declared.look.Look.TheVariants as look
 use Rattle.uv_report.specs.Places.Column.{named_columns}
 use Rattle.uv_report.specs.Format.{named_format, own_columns, takes_columns}
 use Rattle.uv_report.specs.Report.{begin_text, end_text}
+use Rattle.uv_rules.specs.RuleList.{listed_rules}
 use Rattle.uv_lines.specs.declared.limits.LineLimits.{LineLimits}
 use Rattle.uv_lint.specs.declared.counts.LintCounts.{LintCounts}
 use Rattle.uv_lines.specs.declared.fault.StopFault.{StopFault}
@@ -201,7 +202,7 @@ pub record IsLinted (setting : List ℕ → FileSetting) (format : Format) (colu
   pub last : Linted
   pub begun : Stream
   pub ended : Stream
-  pub begins : WritesPiece true (begin_text format columns) (no_file is_quiet) first old begun
+  pub begins : WritesPiece true (begin_text format columns listed_rules) (no_file is_quiet) first old begun
   pub all : LintsAll setting files first last input rest begun ended
   pub ends : WritesPiece (is_writable last.stopped) (end_text format (completion_of last)) last linted ended new
 

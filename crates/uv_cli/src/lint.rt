@@ -1,7 +1,6 @@
 //! The command `lint`: a report on the lines of files, in a format that people or tools read.
-ghost use Rattle.std.specs.Prelude.{◌≡◌, ◌-◌, ◌^◌, ◌<◌, ◌⊎◌, IfOk, map, option_copied, string_bytes, true};
+ghost use Rattle.std.specs.Prelude.{◌≡◌, ◌-◌, ◌^◌, ◌<◌, ◌⊎◌, map, option_copied, string_bytes, true};
 ghost use Rattle.uv_lint.specs.LineViolations.{file_setting};
-ghost use Rattle.uv_report.specs.Report.{begin_text};
 ghost use Rattle.uv_cli.specs.Lint.{HasLinted, HasLintedAgainst, LintsAll, LintsNamed, LintsNext, LintsNothing};
 ghost use Rattle.uv_cli.specs.Lint.{LintsOpened, IsUnopened, IsWhyUnopened, WritesPiece, columns_of};
 ghost use Rattle.uv_cli.specs.Lint.{form_of, format_of, input_name, is_input, reported_name};
@@ -14,7 +13,7 @@ use crate::fault::CliFault;
 use crate::linted::Linted;
 use crate::said::{Seen, said_of_file, said_of_unread};
 use crate::watched_streams::WatchedReader;
-use std::alloc::{AllocError, Global};
+use std::alloc::Global;
 use std::fs;
 use std::fs::Files;
 use std::io::ErrorKind;
@@ -26,8 +25,9 @@ use uv_lint::{LineForm, LintCounts, LintSetting, run_lint};
 use uv_messages::file_names::has_document_end;
 use uv_messages::messages::{Message, say};
 use uv_model::Record;
-use uv_report::{Columns, Format, end_of, push_begin};
+use uv_report::{Columns, Format, begin_of, end_of};
 use uv_resolve::{ResolveFault, resolve_base};
+use uv_rules::shown_rules;
 
 // Nothing was counted.
 const NONE_COUNTED: LintCounts = LintCounts {
@@ -130,7 +130,8 @@ fn lint_against<R: Files + Eprint + AllocGlobal, I: Source, S: Sink>(
         columns,
         form: form_of(job.located),
     };
-    let Ok(begin) = begin_of(rt.alloc(), format, columns) else {
+    let rules = shown_rules();
+    let Ok(begin) = begin_of(rt.alloc(), format, columns, rules.as_slice()) else {
         return End::Fault(CliFault::Memory);
     };
     let linted = write_piece(out, begin.as_str(), Linted::new(job.quiet));
@@ -144,15 +145,6 @@ fn input_name(job: &LintJob) -> &str
     ensures { result.now ≡ input_name job.now }
 {
     job.stdin_name.as_deref().unwrap_or("-")
-}
-
-// What a report begins with.
-fn begin_of(alloc: Global, format: Format, columns: Columns) -> Result<String, AllocError>
-    ensures { IfOk result (λ begin. string_bytes begin ≡ begin_text format columns) }
-{
-    let mut begin = String::new(alloc);
-    push_begin(alloc, &mut begin, format, columns)?;
-    Ok(begin)
 }
 
 // Writes a piece of the report, unless a write has failed before.

@@ -28,9 +28,9 @@ use uv_messages::unknown::{
 use uv_messages::unread::{unread, unwritten, unwritten_line};
 use uv_model::{Extent, Profile, Record, Refusal, Rule};
 use uv_report::{Columns, Format};
-use uv_sentences::{
-    Checked, Escapes, LineViolation, SeenText, Wording, escaped, is_offered, message,
-};
+use uv_rules::LineViolation;
+use uv_sentences::{Checked, KnownText, Wording, is_by_choice, is_offered, message};
+use uv_shown::{Escapes, escaped};
 
 // The formats in the order of docs and help.
 const FORMATS: [Format; 9] = [
@@ -248,27 +248,27 @@ fn push_refused(
         Extent::First => &first,
         Extent::All => refused.found.faults.as_slice(),
     };
-    let mut seen = SeenText::of_several(text);
+    let mut known = KnownText::of_several(text);
     for refusal in found {
-        seen.go_to(refusal.place);
-        let sentence = sentence_on(alloc, &seen, base, profile, *refusal)?;
+        known.go_to(refusal.place);
+        let sentence = sentence_on(alloc, &known, base, profile, *refusal)?;
         push_sentence(alloc, said, *refusal, sentence.as_str())?;
     }
     let mending = mend_refused(alloc, text, base, profile, refused.found.refusal)?;
-    push_offered(alloc, said, &seen, &mending)
+    push_offered(alloc, said, &known, &mending)
 }
 
-// The sentence on a violation of a text, which is seen so, against a record as base.
+// The sentence on a violation of a text, of which this is known, against a record as base.
 fn sentence_on(
     alloc: Global,
-    seen: &SeenText<'_>,
+    known: &KnownText<'_>,
     base: Option<&Record>,
     profile: Profile,
     refusal: Refusal,
 ) -> Result<String, AllocError> {
     let violation = LineViolation::Refused(refusal);
-    let accepted_by = if violation.is_by_choice() {
-        wider_profile(alloc, seen.as_str(), base, profile)?
+    let accepted_by = if is_by_choice(violation) {
+        wider_profile(alloc, known.as_str(), base, profile)?
     } else {
         None
     };
@@ -277,7 +277,7 @@ fn sentence_on(
         accepted_by,
         wording: Wording::Options,
     };
-    message(alloc, checked, seen, violation)
+    Ok(message(alloc, checked, known, violation)?.text)
 }
 
 // Pushes a sentence on a violation, with its place. A host is refused at its first code point, whichever one is wrong.
@@ -298,15 +298,15 @@ fn push_sentence(
     )
 }
 
-// Pushes what to write in place of a text, which is seen so, if that is offered.
+// Pushes what to write in place of a text, of which this is known, if that is offered.
 fn push_offered(
     alloc: Global,
     said: &mut Message,
-    seen: &SeenText<'_>,
+    known: &KnownText<'_>,
     mending: &Mending,
 ) -> Result<(), AllocError> {
     match mending {
-        Mending::Mended { text, .. } if is_offered(seen, text.as_str()) => {
+        Mending::Mended { text, .. } if is_offered(known, text.as_str()) => {
             let text = escaped(alloc, text.as_str(), Escapes::Copied)?;
             let text = text.as_str();
             said.push(alloc, format!(in alloc; "write {text}")?.as_str())
@@ -323,7 +323,7 @@ fn said_of_base(alloc: Global, job: &Job, refusal: Refusal) -> Result<Message, A
     match refusal.rule {
         Rule::NoScheme => line.push_str("it has no scheme")?,
         _ => {
-            let sentence = sentence_on(alloc, &SeenText::new(base), None, profile, refusal)?;
+            let sentence = sentence_on(alloc, &KnownText::new(base), None, profile, refusal)?;
             line.push_str(sentence.as_str())?;
         }
     }

@@ -16,7 +16,7 @@ use std::marker::Model;
 use std::str::from_utf8;
 use uv_lines::line_text;
 use uv_mend::{MendKind, Mending, mend};
-use uv_sentences::{SeenText, is_offered};
+use uv_sentences::{KnownText, is_offered};
 
 // How many bytes a line may have, not counting its end and a byte order mark.
 const LINE_BYTES: usize = 65_536;
@@ -154,7 +154,7 @@ fn writes(setting: FilterSetting<'_>, text: &str, mended: &str, kind: MendKind) 
     ensures asked { result ≡ true → spec.takes setting.entry.kinds kind ≡ true }
     ensures left { result ≡ false → (spec.takes setting.entry.kinds kind && setting.entry.all) ≡ false }
 {
-    takes(setting.kinds, kind) && (setting.all || is_offered(&SeenText::new(text), mended))
+    takes(setting.kinds, kind) && (setting.all || is_offered(&KnownText::new(text), mended))
 }
 
 // Whether mended texts of this kind are written.

@@ -4,7 +4,8 @@ use Rattle.std.proofs.Common.{◌∙◌, append-nil, subst, Result, Ok, Err, OnO
 use Rattle.std.specs.Prelude.{if◌then◌else◌, option_copied}
 use Rattle.std.specs.Result.{is_ok}
 use Rattle.std.specs.declared.alloc.AllocError.{AllocError}
-use Rattle.uv_sentences.specs.declared.line_violation.LineViolation.{LineViolation}
+use Rattle.uv_rules.specs.declared.line_violation.LineViolation.{LineViolation}
+use Rattle.uv_sentences.specs.Sentences.Message.{PlacedText}
 use Rattle.uv_lines.specs.declared.fault.ReportFault.{ReportFault}
 use Rattle.uv_lines.specs.declared.fault.ReportFault.TheVariants as within
 use Rattle.uv_lines.specs.Waiting.{Adds, AreFirstParts, LeavesParts, Passes}
@@ -59,7 +60,7 @@ reported_text file number line (Some link) = refl
 reported_text file number line None = refl
 
 -- what is found with a line that is checked so, and reported so
-found_in : (before : Linting) (line : Option (List ℕ)) (found : List LineViolation) (messages : List (List ℕ))
+found_in : (before : Linting) (line : Option (List ℕ)) (found : List LineViolation) (messages : List PlacedText)
     (mended : Option MendedText) → AreViolations before.setting line found → AreMessages found messages
     → IsMended before.setting.format before.setting.profile before.setting.base found
     (reported_by before.setting.file (before.lines + 1) line (link_of before.setting.form line)).text mended

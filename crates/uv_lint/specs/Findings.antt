@@ -12,9 +12,9 @@ use Rattle.uv_mend.specs.declared.answer.Mending.{Mending}
 use Rattle.uv_mend.specs.declared.answer.Mending.TheVariants as answer
 use Rattle.uv_mend.specs.Mending.{IsMending}
 use Rattle.uv_report.specs.declared.format.Format.{Format}
-use Rattle.uv_sentences.specs.declared.line_violation.LineViolation.{LineViolation}
-use Rattle.uv_sentences.specs.declared.line_violation.LineViolation.TheVariants.{Refused}
-use Rattle.uv_sentences.specs.Sentences.Message.{IsMessage}
+use Rattle.uv_rules.specs.declared.line_violation.LineViolation.{LineViolation}
+use Rattle.uv_rules.specs.declared.line_violation.LineViolation.TheVariants.{Refused}
+use Rattle.uv_sentences.specs.Sentences.Message.{IsMessage, PlacedText}
 use Rattle.uv_report.specs.Format.{shows_mended}
 use Rattle.uv_lint.specs.LineViolations.{AreViolations, FileSetting, link_of}
 use Rattle.uv_lint.specs.Located.{LocatedLink}
@@ -31,7 +31,7 @@ pub record MendedText : Type 0 where
 -- is to be said
 pub record Findings : Type 0 where
   pub violations : List LineViolation
-  pub messages : List (List ℕ)
+  pub messages : List PlacedText
   pub mended : Option MendedText
 
 -- what is wrong with a line of which nothing more is told
@@ -39,9 +39,9 @@ abbrev pub untold : List LineViolation → Findings
 untold violations = record { violations = violations; messages = []; mended = None }
 
 -- one message for each of the violations
-abbrev pub AreMessages : List LineViolation → List (List ℕ) → Type 0
+abbrev pub AreMessages : List LineViolation → List PlacedText → Type 0
 AreMessages [] [] = Unit {0}
-AreMessages (violation ∷ rest) (message ∷ messages) = IsMessage message × AreMessages rest messages
+AreMessages (violation ∷ rest) (message ∷ messages) = IsMessage message.text × AreMessages rest messages
 AreMessages _ _ = ⊥
 
 -- ---- the text

@@ -13,8 +13,8 @@ use Rattle.uv_model.specs.Records.Url.{Url}
 use Rattle.uv_model.specs.Valid.{Valid}
 use Rattle.uv_grammar.specs.Verdict.{IsRefused}
 use Rattle.uv_report.specs.declared.places.column.Columns.{Columns}
-use Rattle.uv_sentences.specs.declared.line_violation.LineViolation.{LineViolation}
-use Rattle.uv_sentences.specs.declared.line_violation.LineViolation.TheVariants.{Refused, NotUtf8, TooLong, NotLocated}
+use Rattle.uv_rules.specs.declared.line_violation.LineViolation.{LineViolation}
+use Rattle.uv_rules.specs.declared.line_violation.LineViolation.TheVariants.{Refused, NotUtf8, TooLong, NotLocated}
 use Rattle.uv_report.specs.declared.format.Format.{Format}
 use Rattle.uv_report.specs.declared.look.Look.{Look}
 use Rattle.uv_lint.specs.declared.setting.LineForm.{LineForm}

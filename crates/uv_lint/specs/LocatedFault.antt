@@ -2,9 +2,9 @@
 use Rattle.std.specs.Prelude.{ℕ, ◌==◌, Bool, true, List, [], ◌∷◌, Option, Some, None, drop, if◌then◌else◌, is_none}
 use Rattle.std.specs.Prelude.{is_some, take}
 use Rattle.std.specs.Option.{option_and_then}
-use Rattle.uv_sentences.specs.declared.located_fault.LocatedFault.{LocatedFault}
-use Rattle.uv_sentences.specs.declared.located_fault.LocatedFault.TheVariants.{NoFile, NoLine, LineRange, NoColumn}
-use Rattle.uv_sentences.specs.declared.located_fault.LocatedFault.TheVariants.{ColumnRange, NoLink}
+use Rattle.uv_rules.specs.declared.located_fault.LocatedFault.{LocatedFault}
+use Rattle.uv_rules.specs.declared.located_fault.LocatedFault.TheVariants.{NoFile, NoLine, LineRange, NoColumn}
+use Rattle.uv_rules.specs.declared.located_fault.LocatedFault.TheVariants.{ColumnRange, NoLink}
 use Rattle.uv_lint.specs.Located.{Number, Run, file_length, number_of, run_of}
 
 -- ---- a run that says no place

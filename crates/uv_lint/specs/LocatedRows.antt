@@ -1,7 +1,7 @@
 -- Located lines that are written out: where their links are, and why others aren't of the form.
 use Rattle.std.specs.Prelude.{◌≡◌, ℕ, List, [], ◌∷◌, Option, Some, None, codes}
-use Rattle.uv_sentences.specs.declared.located_fault.LocatedFault.TheVariants.{NoFile, NoLine, LineRange, NoColumn}
-use Rattle.uv_sentences.specs.declared.located_fault.LocatedFault.TheVariants.{ColumnRange, NoLink}
+use Rattle.uv_rules.specs.declared.located_fault.LocatedFault.TheVariants.{NoFile, NoLine, LineRange, NoColumn}
+use Rattle.uv_rules.specs.declared.located_fault.LocatedFault.TheVariants.{ColumnRange, NoLink}
 use Rattle.uv_lint.specs.Located.{LocatedLink, located}
 use Rattle.uv_lint.specs.LocatedFault.{located_fault}
 

@@ -1,18 +1,20 @@
 -- The report on a file: what is before its diagnostics, the diagnostics on each line, in order and numbered from 1,
 -- and what is after them.
-use Rattle.std.specs.Prelude.{◌≡◌, ℕ, ◌+◌, ◌-◌, ◌^◌, ◌==◌, Bool, false, List, [], ◌∷◌, ◌++◌, Option, Some, None}
+use Rattle.std.specs.Prelude.{◌≡◌, ℕ, ◌+◌, ◌-◌, ◌^◌, ◌==◌, Bool, true, false, not, List, [], ◌∷◌, ◌++◌, Option, Some, None}
 use Rattle.std.specs.Prelude.{if◌then◌else◌, length, map, min, option_map, sum_by, take}
 use Rattle.std.specs.Str.{IsUtf8, chars}
 use Rattle.std.specs.Str.Lossy.{utf8_valid_len}
 use Rattle.uv_report.specs.declared.places.column.Columns.{Columns}
 use Rattle.uv_report.specs.declared.diagnostic.Region.{Region}
-use Rattle.uv_sentences.specs.declared.line_violation.LineViolation.{LineViolation}
+use Rattle.uv_rules.specs.declared.line_violation.LineViolation.{LineViolation}
+use Rattle.uv_rules.specs.declared.line_violation.LineViolation.TheVariants.{Refused}
 use Rattle.uv_report.specs.declared.format.Format.{Format}
 use Rattle.uv_report.specs.declared.look.Look.{Look}
 use Rattle.uv_report.specs.Places.Column.{column_at, width}
 use Rattle.uv_report.specs.Diagnostic.{DiagnosticView, FixView}
-use Rattle.uv_sentences.specs.LineViolation.{violation_address, violation_end, violation_name}
-use Rattle.uv_sentences.specs.LineViolation.{violation_place}
+use Rattle.uv_rules.specs.LineViolation.{violation_address, violation_end, violation_index, violation_name}
+use Rattle.uv_rules.specs.LineViolation.{violation_place}
+use Rattle.uv_sentences.specs.Sentences.Message.{PlacedText}
 use Rattle.uv_report.specs.Report.{diagnostic_text, file_begin_text, file_end_text, separator}
 use Rattle.uv_lines.specs.Lines.{short_line, without_mark}
 use Rattle.uv_lint.specs.declared.counts.LintCounts.{LintCounts}
@@ -70,23 +72,31 @@ fix_of columns reported mended = record {
 abbrev pub fix_on : Columns → ReportedText → Option MendedText → Option FixView
 fix_on columns reported mended = option_map (fix_of columns reported) mended
 
+-- the text is shown: it is refused, or some of a line that isn't checked is carried
+abbrev pub is_shown : LineViolation → List ℕ → Bool
+is_shown (Refused refusal) text = true
+is_shown violation text = not (length text == 0)
+
 -- a diagnostic on a text of which this is said, in this region
-abbrev pub diagnostic_in : ReportedText → Region → Option FixView → LineViolation → List ℕ → DiagnosticView
+abbrev pub diagnostic_in : ReportedText → Region → Option FixView → LineViolation → PlacedText → DiagnosticView
 diagnostic_in reported region fix violation message = record {
   file = reported.file;
   region = region;
   rule = violation_name violation;
+  index = Some (violation_index violation);
   uri = violation_address violation;
-  message = message;
+  message = message.text;
   text = reported.text;
+  is_shown = is_shown violation reported.text;
   place = violation_place violation;
+  named = message.place;
   repeat = 0;
   fix = fix;
 }
 
 -- a diagnostic on a text of which this is said, from the column of the violation's place up to the column at which it
 -- ends
-abbrev pub diagnostic_on : Columns → ReportedText → Option FixView → LineViolation → List ℕ → DiagnosticView
+abbrev pub diagnostic_on : Columns → ReportedText → Option FixView → LineViolation → PlacedText → DiagnosticView
 diagnostic_on columns reported fix violation message =
     diagnostic_in reported
     (region_in reported (column_at columns reported.start reported.text (violation_place violation))
@@ -107,7 +117,7 @@ one_text form format look is_first found =
 -- A diagnostic for each violation, with its message; the first of them is the first one of the report, or isn't, and
 -- only it says what to write in place of the text.
 abbrev pub diagnostics_text : LineForm → Format → Look → Columns → ReportedText → Bool → Option FixView
-    → List LineViolation → List (List ℕ) → List ℕ
+    → List LineViolation → List PlacedText → List ℕ
 diagnostics_text form format look columns reported is_first fix (violation ∷ rest) (message ∷ messages) =
     one_text form format look is_first (diagnostic_on columns reported fix violation message)
     ++ diagnostics_text form format look columns reported false None rest messages

@@ -1,8 +1,8 @@
 -- Lists that are written out, with what is found with their lines: the lines as they are checked, and the counts.
 use Rattle.std.specs.Prelude.{◌≡◌, ℕ, ◌++◌, true, false, List, [], ◌∷◌, Option, Some, None, codes, map}
 use Rattle.uv_model.specs.declared.rule.Rule.TheVariants.{NoScheme, CodePoint}
-use Rattle.uv_sentences.specs.declared.line_violation.LineViolation.{LineViolation}
-use Rattle.uv_sentences.specs.declared.line_violation.LineViolation.TheVariants.{Refused, NotUtf8, TooLong}
+use Rattle.uv_rules.specs.declared.line_violation.LineViolation.{LineViolation}
+use Rattle.uv_rules.specs.declared.line_violation.LineViolation.TheVariants.{Refused, NotUtf8, TooLong}
 use Rattle.uv_lines.specs.Lines.{byte_order_mark, lines_of}
 use Rattle.uv_lint.specs.Findings.{Findings, shown, untold}
 use Rattle.uv_lint.specs.Report.{is_still_first, lines_within, tally}

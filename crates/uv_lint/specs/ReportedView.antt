@@ -1,7 +1,8 @@
 -- What the code's values of a text and its place denote.
 use Rattle.std.specs.Prelude.{◌≡◌, ℕ, Bool, List, Option, option_copied, option_map, string_bytes, take}
 use Rattle.uv_report.specs.Diagnostic.{DiagnosticView}
-use Rattle.uv_sentences.specs.declared.line_violation.LineViolation.{LineViolation}
+use Rattle.uv_rules.specs.declared.line_violation.LineViolation.{LineViolation}
+use Rattle.uv_sentences.specs.Sentences.Message.{PlacedText}
 use Rattle.uv_lint.specs.declared.mended_line.MendedLine.{MendedLine}
 use Rattle.uv_lint.specs.declared.reported_line.Place.{Place}
 use Rattle.uv_lint.specs.declared.reported_line.ReportedLine.{ReportedLine}
@@ -42,7 +43,7 @@ abbrev pub said_text : LintSetting → Bool → DiagnosticView → List ℕ
 said_text setting is_first found = one_text setting.form setting.format setting.look is_first found
 
 -- the report on a text of which this was found, by these messages
-abbrev pub text_said : ReportedLine → LintSetting → Bool → Option MendedLine → List LineViolation → List (List ℕ)
+abbrev pub text_said : ReportedLine → LintSetting → Bool → Option MendedLine → List LineViolation → List PlacedText
     → List ℕ
 text_said line setting is_first mended violations messages =
     text_diagnostics (file_setting line.file.now setting) (reported_view line) is_first
@@ -51,5 +52,5 @@ text_said line setting is_first mended violations messages =
 -- some of its first diagnostics
 abbrev pub AreFirstSaid : ReportedLine → LintSetting → Bool → Option MendedLine → List LineViolation → List ℕ → Type 0
 AreFirstSaid line setting is_first mended violations text =
-    (messages : List (List ℕ)) × AreMessages violations messages
+    (messages : List PlacedText) × AreMessages violations messages
     × ((count : ℕ) × (text ≡ text_said line setting is_first mended (take count violations) messages))

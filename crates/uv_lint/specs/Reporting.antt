@@ -1,6 +1,7 @@
 -- What reports on the lines of a file: what it is between two lines, and what it says of the next one.
 use Rattle.std.specs.Prelude.{◌≡◌, ℕ, ◌+◌, ◌⊎◌, Bool, List, [], ◌++◌, Option}
-use Rattle.uv_sentences.specs.declared.line_violation.LineViolation.{LineViolation}
+use Rattle.uv_rules.specs.declared.line_violation.LineViolation.{LineViolation}
+use Rattle.uv_sentences.specs.Sentences.Message.{PlacedText}
 use Rattle.uv_lines.specs.Waiting.{Passes}
 use Rattle.uv_lint.specs.declared.counts.LintCounts.{LintCounts}
 use Rattle.uv_lint.specs.Findings.{AreFindings, AreMessages, Findings, IsMended, MendedText}
@@ -34,7 +35,7 @@ abbrev pub HasReported : Linting → ReportedText → List LineViolation → Lis
 HasReported before reported violations waited old new waits =
     (mended : Option MendedText)
     × IsMended before.setting.format before.setting.profile before.setting.base violations reported.text mended
-    × ((messages : List (List ℕ)) × AreMessages violations messages
+    × ((messages : List PlacedText) × AreMessages violations messages
     × Passes (waited ++ text_diagnostics before.setting reported before.is_first
     (record { violations = violations; messages = messages; mended = mended })) old new waits)
 
@@ -43,7 +44,7 @@ abbrev pub HasBegun : Linting → ReportedText → List LineViolation → List �
 HasBegun before reported violations parts =
     (parts ≡ []) ⊎ ((mended : Option MendedText)
     × IsMended before.setting.format before.setting.profile before.setting.base violations reported.text mended
-    × ((messages : List (List ℕ)) × AreMessages violations messages
+    × ((messages : List PlacedText) × AreMessages violations messages
     × ((count : ℕ) × (parts ≡ text_diagnostics before.setting reported before.is_first
     (first_found count (record { violations = violations; messages = messages; mended = mended }))))))
 

@@ -12,7 +12,7 @@ ghost use Rattle.uv_lint.specs.LineViolations.{foreign_place};
 ghost use Rattle.uv_lint.specs.Report.{checked_of};
 ghost use Rattle.uv_lint.specs.Reporting.{HasBegunLine, HasReportedLine};
 ghost use Rattle.uv_model.specs.declared.extent.Extent.TheVariants.{All};
-ghost use Rattle.uv_sentences.specs.declared.line_violation.LineViolation.TheVariants.{NotUtf8, Refused};
+ghost use Rattle.uv_rules.specs.declared.line_violation.LineViolation.TheVariants.{NotUtf8, Refused};
 
 use crate::code_points::count;
 use crate::located::located;
@@ -25,7 +25,7 @@ use uv_grammar::{Verdict, check, faults};
 use uv_io::Sink;
 use uv_lines::{Line, ReportFault};
 use uv_model::{Extent, Refusal};
-use uv_sentences::LineViolation;
+use uv_rules::LineViolation;
 
 impl<'a> LintReporter<'a> {
     /// The text of a line that is a text alone and is known to be one, as most lines are. None also stands for an empty

@@ -4,7 +4,7 @@ ghost use Rattle.uv_lint.specs.LocatedFault as spec;
 ghost use Rattle.uv_lint.specs.LocatedViews.{number_view, run_view};
 
 use crate::located::{Number, Run, file_length, number_of, run_of};
-use uv_sentences::LocatedFault;
+use uv_rules::LocatedFault;
 
 /// Why a line that isn't `FILE:LINE:COLUMN:LINK` isn't one.
 pub(crate) fn located_fault(line: &[u8]) -> LocatedFault

@@ -13,7 +13,8 @@ use std::alloc::{AllocError, Global};
 use uv_mend::{MendKind, Mending, mend_refused};
 use uv_model::Refusal;
 use uv_report::{ColumnCounter, Columns, Fix};
-use uv_sentences::{LineViolation, SeenText, is_named, is_offered};
+use uv_rules::LineViolation;
+use uv_sentences::{KnownText, is_named, is_offered};
 
 /// A valid text, how it is to the refused one, whether it is offered in its place, and whether the message says what to
 /// write instead.
@@ -26,14 +27,14 @@ pub(crate) struct MendedLine {
 }
 
 impl MendedLine {
-    // The mended text of an answer about a text that is seen so, if it has one.
-    fn of(mending: Mending, seen: &SeenText<'_>) -> Option<MendedLine>
+    // The mended text of an answer about a text of which this is known, if it has one.
+    fn of(mending: Mending, refused: &KnownText<'_>) -> Option<MendedLine>
         ensures { IsMendedOf mending (option_map mended_line_view result) }
     {
         match mending {
             Mending::Mended { text, kind } => Some(MendedLine {
-                is_offered: is_offered(seen, text.as_str()),
-                is_named: is_named(seen),
+                is_offered: is_offered(refused, text.as_str()),
+                is_named: is_named(refused),
                 text,
                 kind,
             }),
@@ -42,23 +43,23 @@ impl MendedLine {
     }
 }
 
-/// What to write in place of a text of which this was found, and which is seen so. It is asked for of a refused text
+/// What to write in place of a text of which this was found, and this is known. It is asked for of a refused text
 /// alone, and where the format says it.
 pub(crate) fn mended_line(
     alloc: Global,
     setting: LintSetting<'_>,
     violations: &[LineViolation],
-    seen: &SeenText<'_>,
+    known: &KnownText<'_>,
 ) -> Result<Option<MendedLine>, AllocError>
-    requires { IsRefusedFirst setting.profile (option_copied setting.base) violations.now seen.now }
+    requires { IsRefusedFirst setting.profile (option_copied setting.base) violations.now known.now }
     ensures { IfOk result (λ mended. IsMended setting.entry.format setting.entry.profile
-        (option_copied setting.entry.base) violations.now seen.now (option_map mended_line_view mended)) }
+        (option_copied setting.entry.base) violations.now known.now (option_map mended_line_view mended)) }
 {
     match first_refusal(violations) {
         Some(refusal) if setting.format.shows_mended() => {
-            let text = seen.as_str();
+            let text = known.as_str();
             let mending = mend_refused(alloc, text, setting.base, setting.profile, refusal)?;
-            Ok(MendedLine::of(mending, seen))
+            Ok(MendedLine::of(mending, known))
         }
         _ => Ok(None),
     }

@@ -5,10 +5,10 @@ ghost use Rattle.std.specs.Prelude.{option_map, string_bytes};
 ghost use Rattle.uv_lines.specs.Fault.{failed_within};
 ghost use Rattle.uv_lines.specs.Waiting.{LeavesParts, Passes};
 ghost use Rattle.uv_report.specs.Diagnostic.{diagnostic_view, fix_view};
-ghost use Rattle.uv_sentences.specs.Sentences.Message.{IsMessage};
+ghost use Rattle.uv_sentences.specs.Sentences.Message.{IsMessage, PlacedText, message_view};
 ghost use Rattle.uv_lint.specs.LocatedViews.{link_view};
 ghost use Rattle.uv_lint.specs.Findings.{AreMessages, IsUtf8WhereRefused, bytes_by, is_refused, shown};
-ghost use Rattle.uv_lint.specs.Report.{diagnostic_in, region_in, reported_by};
+ghost use Rattle.uv_lint.specs.Report.{diagnostic_in, is_shown, region_in, reported_by};
 ghost use Rattle.uv_lint.specs.Reporting.{IsNoneOr};
 ghost use Rattle.uv_lint.specs.ReportedView.{AreFirstSaid, place_view, reported_view, said_text, text_said};
 
@@ -23,9 +23,11 @@ use uv_io::{DeviceFault, Sink};
 use uv_lines::{ReportFault, end_part};
 use uv_model::Profile;
 use uv_report::{
-    ColumnCounter, Diagnostic, Fix, Region, push, push_file_begin, push_file_end, separator,
+    ColumnCounter, Diagnostic, Fix, Region, file_begin_of, file_end_of, push, separator,
 };
-use uv_sentences::{Checked, LineViolation, SeenText, Wording, message};
+use uv_rules::LineViolation;
+use uv_sentences::{Checked, KnownText, PlacedMessage, Wording, is_by_choice, message};
+use uv_shown::SeenText;
 
 /// A line, or the link of one, with the place where it is.
 #[derive(Clone, Copy)]
@@ -93,7 +95,7 @@ impl<'l> ReportedLine<'l> {
         }
     }
 
-    /// Says a diagnostic for each violation of the text, which is seen so; the first of them says what to write. It is
+    /// Says a diagnostic for each violation of the text, of which this is known; the first of them says what to write. It is
     /// given whether that is the first one of the report. A part ends after each diagnostic; room for one is given.
     pub(crate) fn push<W: Sink>(
         &self,
@@ -102,14 +104,14 @@ impl<'l> ReportedLine<'l> {
         setting: LintSetting<'_>,
         is_first: bool,
         mended: &'l Option<MendedLine>,
-        seen: SeenText<'l>,
+        known: KnownText<'l>,
         violations: &[LineViolation],
         text: &mut Vec<u8>,
         writer: &mut W,
     ) -> Result<(), ReportFault<AllocError>>
         requires writes { W.failed writer.old < 2 ^ 64 - 1 }
-        requires seen { seen ≡ self.now.text.now }
-        ensures text { OnOk result ((messages : List (List ℕ)) × AreMessages violations.now messages
+        requires known { known ≡ self.now.text.now }
+        ensures text { OnOk result ((messages : List PlacedText) × AreMessages violations.now messages
             × Passes (text.old.items ++ text_said self.now setting.entry is_first mended.entry.now violations.now
             messages) (W.contents writer.old) (W.contents writer.new) text.new.items) }
         ensures quiet { OnOk result (W.failed writer.new ≡ W.failed writer.old) }
@@ -118,24 +120,32 @@ impl<'l> ReportedLine<'l> {
         ensures failed { IfErr result (λ e. W.failed writer.new ≡ W.failed writer.old + failed_within e) }
     {
         let mut counter = ColumnCounter::new(setting.columns, self.start, self.text);
-        let mut seen = seen;
+        let mut known = known;
         let mut is_first = is_first;
         let mut fix = fix_in_place(mended, setting.columns, self);
         for violation in violations {
             let column = counter.column(violation.place());
             let end = counter.column_ahead(violation.end());
-            seen.go_to(violation.place());
-            let Ok(message) = message_of(alloc, setting, &seen, *violation) else {
+            known.go_to(violation.place());
+            let Ok(message) = message_of(alloc, setting, &known, *violation) else {
                 return Err(ReportFault::Reporter(AllocError));
             };
             let said = Said {
                 region: self.region(column, end),
                 violation: *violation,
-                message: message.as_str(),
+                message: &message,
                 fix,
             };
             if let Err(fault) = say_violation(
-                alloc, reported, setting, self, &seen, said, is_first, text, writer,
+                alloc,
+                reported,
+                setting,
+                self,
+                known.seen(),
+                said,
+                is_first,
+                text,
+                writer,
             ) {
                 return Err(fault);
             }
@@ -151,7 +161,7 @@ impl<'l> ReportedLine<'l> {
 struct Said<'x> {
     region: Region,
     violation: LineViolation,
-    message: &'x str,
+    message: &'x PlacedMessage,
     fix: Option<Fix<'x>>,
 }
 
@@ -163,37 +173,52 @@ fn diagnostic_on<'x>(
 ) -> Diagnostic<'x>
     requires { seen.now ≡ line.now.text.now }
     ensures { diagnostic_view result ≡ diagnostic_in (reported_view line.now) said.entry.region
-        (option_map fix_view said.entry.fix) said.entry.violation said.entry.message.now }
+        (option_map fix_view said.entry.fix) said.entry.violation (message_view said.entry.message.now) }
 {
     let violation = said.violation;
     Diagnostic {
         file: line.file,
         region: said.region,
         rule: violation.name(),
+        index: Some(violation.index()),
         uri: violation.address(),
-        message: said.message,
+        message: said.message.text.as_str(),
         text: seen,
+        is_shown: is_shown(violation, line.text),
         place: violation.place(),
+        named: said.message.place,
         repeat: 0,
         fix: said.fix,
     }
 }
 
-// What is reported of a violation of a text, which is seen so, on one line.
+// Whether a text with such a violation is shown: it is refused, or some of a line that isn't checked is carried.
+fn is_shown(violation: LineViolation, text: &str) -> bool
+    ensures { result ≡ is_shown violation text.now }
+{
+    match violation {
+        LineViolation::Refused(_) => true,
+        LineViolation::NotUtf8(_) | LineViolation::TooLong | LineViolation::NotLocated(_) => {
+            !text.is_empty()
+        }
+    }
+}
+
+// What is reported of a violation of a text, of which this is known, on one line.
 fn message_of(
     alloc: Global,
     setting: LintSetting<'_>,
-    seen: &SeenText<'_>,
+    known: &KnownText<'_>,
     violation: LineViolation,
-) -> Result<String, AllocError>
-    ensures { IfOk result (λ text. IsMessage (string_bytes text)) }
+) -> Result<PlacedMessage, AllocError>
+    ensures { IfOk result (λ message. IsMessage (message_view message).text) }
 {
     let checked = Checked {
         profile: setting.profile,
-        accepted_by: accepted_by(alloc, setting, seen.as_str(), violation)?,
+        accepted_by: accepted_by(alloc, setting, known.as_str(), violation)?,
         wording: Wording::Options,
     };
-    message(alloc, checked, seen, violation)
+    message(alloc, checked, known, violation)
 }
 
 // The next wider profile that accepts a text, where the message on a violation of it may name one.
@@ -203,21 +228,21 @@ fn accepted_by(
     text: &str,
     violation: LineViolation,
 ) -> Result<Option<Profile>, AllocError> {
-    if violation.is_by_choice() {
+    if is_by_choice(violation) {
         wider_profile(alloc, text, setting.base, setting.profile)
     } else {
         Ok(None)
     }
 }
 
-/// A text of which this was found, as it is seen.
-pub(crate) fn seen_text<'l>(text: &'l str, violations: &[LineViolation]) -> SeenText<'l>
+/// A text of which this was found, with what is known of it before its messages.
+pub(crate) fn known_text<'l>(text: &'l str, violations: &[LineViolation]) -> KnownText<'l>
     ensures { result ≡ text.entry.now }
 {
     match violations {
-        [LineViolation::Refused(_)] => SeenText::of_refused(text),
-        [] | [_] => SeenText::new(text),
-        _ => SeenText::of_several(text),
+        [LineViolation::Refused(_)] => KnownText::of_refused(text),
+        [] | [_] => KnownText::new(text),
+        _ => KnownText::of_several(text),
     }
 }
 
@@ -237,12 +262,12 @@ fn say_violation<W: Sink>(
     requires seen { seen.now ≡ line.now.text.now }
     ensures text { OnOk result (Passes (text.old.items ++ said_text setting.entry is_first
         (diagnostic_in (reported_view line.now) said.entry.region (option_map fix_view said.entry.fix)
-        said.entry.violation said.entry.message.now))
+        said.entry.violation (message_view said.entry.message.now)))
         (W.contents writer.old) (W.contents writer.new) text.new.items) }
     ensures quiet { OnOk result (W.failed writer.new ≡ W.failed writer.old) }
     ensures fault { IfErr result (λ e. LeavesParts (IsNoneOr (said_text setting.entry is_first
         (diagnostic_in (reported_view line.now) said.entry.region (option_map fix_view said.entry.fix)
-        said.entry.violation said.entry.message.now))) e
+        said.entry.violation (message_view said.entry.message.now)))) e
         text.old.items (W.contents writer.old) text.new.items (W.contents writer.new)) }
     ensures failed { IfErr result (λ e. W.failed writer.new ≡ W.failed writer.old + failed_within e) }
 {
@@ -314,9 +339,10 @@ fn put_framed(
     match setting.form {
         LineForm::Plain => push(alloc, reported, format, look, diagnostic),
         LineForm::Located => {
-            push_file_begin(alloc, reported, format, diagnostic.file)?;
+            let begin = file_begin_of(alloc, format, diagnostic.file)?;
+            reported.push_str(begin.as_str())?;
             push(alloc, reported, format, look, diagnostic)?;
-            push_file_end(reported, format)
+            reported.push_str(file_end_of(format))
         }
     }
 }

@@ -14,14 +14,14 @@ ghost use Rattle.uv_lint.specs.Reporting.{HasBegun, HasBegunLine, HasReported, H
 use crate::counts::LintCounts;
 use crate::located::link_of;
 use crate::mended_line::mended_line;
-use crate::reported_line::{Place, ReportedLine, seen_text, shown_text};
+use crate::reported_line::{Place, ReportedLine, known_text, shown_text};
 use crate::setting::{LineForm, LintSetting};
 use std::alloc::{AllocError, Global};
 use std::marker::Model;
 use uv_io::Sink;
 use uv_lines::{Line, ReportFault, Reporter, without_mark};
 use uv_model::{Extent, Profile, Record};
-use uv_sentences::LineViolation;
+use uv_rules::LineViolation;
 
 /// The reporter on a file's lines: how they are checked, whether the report has no diagnostic yet, and the counts of
 /// the lines before.
@@ -171,8 +171,8 @@ impl<'a> LintReporter<'a> {
             violations.now) e text.old.items (W.contents writer.old) text.new.items (W.contents writer.new)) }
         ensures failed { IfErr result (λ e. W.failed writer.new ≡ W.failed writer.old + failed_within e) }
     {
-        let seen = seen_text(shown, violations);
-        let Ok(mended) = mended_line(alloc, self.setting, violations, &seen) else {
+        let known = known_text(shown, violations);
+        let Ok(mended) = mended_line(alloc, self.setting, violations, &known) else {
             return Err(ReportFault::Reporter(AllocError));
         };
         let reported_line = ReportedLine {
@@ -187,7 +187,7 @@ impl<'a> LintReporter<'a> {
             self.setting,
             self.is_first,
             &mended,
-            seen,
+            known,
             violations,
             text,
             writer,

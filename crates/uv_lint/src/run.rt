@@ -13,7 +13,7 @@ use crate::setting::{LineForm, LintSetting};
 use std::alloc::{AllocError, Global};
 use uv_io::{Sink, Source};
 use uv_lines::{Frame, LineFault, LineLimits, StopFault, run_lines};
-use uv_report::{push_file_begin, push_file_end};
+use uv_report::{file_begin_of, file_end_of};
 
 // How many bytes a line may have, and how many lines may come.
 const LINE_LIMITS: LineLimits = LineLimits {
@@ -96,9 +96,7 @@ pub fn run_within<R: Source, W: Sink>(
     let Ok(begin) = list_begin(alloc, setting, file) else {
         return (reporter.counts(), Err(StopFault::Memory));
     };
-    let Ok(end) = list_end(alloc, setting) else {
-        return (reporter.counts(), Err(StopFault::Memory));
-    };
+    let end = list_end(setting);
     let frame = Frame {
         begin: begin.as_bytes(),
         end: end.as_bytes(),
@@ -123,20 +121,18 @@ fn list_begin(alloc: Global, setting: LintSetting<'_>, file: &str) -> Result<Str
     ensures { IfOk result (λ begin. string_bytes begin
         ≡ list_begin_text setting.entry.form setting.entry.format file.now) }
 {
-    let mut begin = String::new(alloc);
-    if setting.form == LineForm::Plain {
-        push_file_begin(alloc, &mut begin, setting.format, file)?;
+    match setting.form {
+        LineForm::Plain => file_begin_of(alloc, setting.format, file),
+        LineForm::Located => Ok(String::new(alloc)),
     }
-    Ok(begin)
 }
 
 // What is after them.
-fn list_end(alloc: Global, setting: LintSetting<'_>) -> Result<String, AllocError>
-    ensures { IfOk result (λ end. string_bytes end ≡ list_end_text setting.entry.form setting.entry.format) }
+fn list_end(setting: LintSetting<'_>) -> &'static str
+    ensures { result.now ≡ list_end_text setting.entry.form setting.entry.format }
 {
-    let mut end = String::new(alloc);
-    if setting.form == LineForm::Plain {
-        push_file_end(&mut end, setting.format)?;
+    match setting.form {
+        LineForm::Plain => file_end_of(setting.format),
+        LineForm::Located => "",
     }
-    Ok(end)
 }

@@ -9,11 +9,11 @@ use Rattle.std.specs.declared.alloc.Global.{Global}
 use Rattle.uv_model.specs.declared.rule.Refusal.{Refusal}
 use Rattle.uv_model.specs.declared.rule.Rule.{Rule}
 use Rattle.uv_model.specs.Violations.Rule.{named_rule, rule_number, rules_in_order}
-use Rattle.uv_sentences.specs.declared.line_violation.LineViolation.{LineViolation}
-use Rattle.uv_sentences.specs.declared.line_violation.LineViolation.TheVariants.{Refused}
-use Rattle.uv_sentences.specs.declared.rules.explanation.Explanation.{Explanation}
-use Rattle.uv_sentences.specs.LineViolation.{named_violation, violation_help, violation_name, violation_sentence}
-use Rattle.uv_sentences.specs.Rules.Explanation.{rule_place, rule_uri}
+use Rattle.uv_rules.specs.declared.line_violation.LineViolation.{LineViolation}
+use Rattle.uv_rules.specs.declared.line_violation.LineViolation.TheVariants.{Refused}
+use Rattle.uv_rules.specs.declared.explanation.Explanation.{Explanation}
+use Rattle.uv_rules.specs.LineViolation.{named_violation, violation_help, violation_name, violation_sentence}
+use Rattle.uv_rules.specs.Explanation.{rule_place, rule_uri}
 use Rattle.uv_arguments.specs.declared.jobs.Told.{Told}
 use Rattle.uv_arguments.specs.declared.jobs.Told.TheVariants as told
 use Rattle.uv_messages.specs.declared.explanations.Topic.{Topic}

@@ -14,7 +14,7 @@ use itoa::Buffer;
 use std::alloc::{AllocError, Global};
 use uv_arguments::Told;
 use uv_model::{Refusal, Rule};
-use uv_sentences::{Explanation, LineViolation, explain};
+use uv_rules::{Explanation, LineViolation, explain};
 
 // What a name has an explanation of.
 #[derive(Clone, Copy)]

@@ -4,7 +4,7 @@ ghost use Rattle.uv_messages.specs.Messages.{IsSaid, message_line};
 
 use std::alloc::{AllocError, Global};
 use std::marker::Model;
-use uv_sentences::push_shown;
+use uv_shown::push_shown;
 
 /// Lines that begin with the program's name, and contain nothing that controls a terminal; or nothing.
 #[derive(Drop)]

@@ -7,7 +7,7 @@ use crate::names::{longer_names, nearest};
 use std::alloc::{AllocError, Global};
 use uv_arguments::Colours;
 use uv_model::{MendKind, Profile, Rule};
-use uv_sentences::{LineViolation, LocatedFault};
+use uv_rules::{LineViolation, LocatedFault};
 
 // The kinds in the order of docs and help.
 const KINDS: [MendKind; 3] = [MendKind::Same, MendKind::Escaped, MendKind::Changed];

@@ -6,8 +6,8 @@ use Rattle.uv_report.specs.Diagnostic.{DiagnosticView}
 use Rattle.uv_report.specs.Formats.Caret.{caret_lines, padding}
 use Rattle.uv_report.specs.Formats.Gnu.{gnu_line, gnu_text}
 use Rattle.uv_report.specs.Look.{bold, dim, painted, red, rendition}
-use Rattle.uv_sentences.specs.declared.escaping.escapes.Escapes.TheVariants.{Shown}
-use Rattle.uv_sentences.specs.Escaping.Escapes.{escaped}
+use Rattle.uv_shown.specs.declared.escaping.escapes.Escapes.TheVariants.{Shown}
+use Rattle.uv_shown.specs.Escaping.Escapes.{escaped}
 
 -- what turns colours off
 abbrev off : List ℕ

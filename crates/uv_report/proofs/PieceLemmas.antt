@@ -1,5 +1,5 @@
 -- Texts that are put one after the other.
-use Rattle.std.proofs.Common.{◌≡◌, ℕ, List, ◌++◌, refl, ◌∙◌, append_assoc}
+use Rattle.std.proofs.Common.{◌≡◌, ℕ, List, [], ◌∷◌, ◌++◌, refl, ◌∙◌, ap, append_assoc, flat_map, map}
 
 -- three pieces after a start
 pub three_pieces : (start a b c : List ℕ) {t1 t2 t3 : List ℕ}
@@ -23,3 +23,9 @@ pub six_pieces : (start a b c d e f : List ℕ) {t1 t2 t3 t4 t5 t6 : List ℕ}
 six_pieces start a b c d e f {t1} {t2} {t3} {t4} {t5} {t6} e1 e2 e3 e4 e5 e6 =
     let whole : t6 ≡ (((((start ++ a) ++ b) ++ c) ++ d) ++ e) ++ f = rw (e6, e5, e4, e3, e2, e1) refl in
     whole ∙ simp append_assoc
+
+-- the pieces of what other elements stand for
+pub flat_map_mapped : {X Y : Type 0} (f : Y → List ℕ) (g : X → Y) (xs : List X)
+    → flat_map (λ x. f (g x)) xs ≡ flat_map f (map g xs)
+flat_map_mapped f g [] = refl
+flat_map_mapped f g (x ∷ xs) = ap (λ t. f (g x) ++ t) (flat_map_mapped f g xs)

@@ -8,9 +8,9 @@ use Rattle.std.proofs.lemmas.Bool.Decides.{nat_tests}
 use Rattle.unicode_width.specs.Width.{char_width}
 use Rattle.uv_report.specs.Formats.Caret.{below, padding}
 use Rattle.uv_report.specs.Places.Column.{shown_width}
-use Rattle.uv_sentences.specs.Escaping.Printable.{is_printable}
-use Rattle.uv_sentences.proofs.PlaceLemmas.{chars_of_ascii}
-use Rattle.uv_sentences.proofs.PrintableLemmas.{ascii, seen}
+use Rattle.uv_shown.specs.Escaping.Printable.{is_printable}
+use Rattle.uv_shown.proofs.PlaceLemmas.{chars_of_ascii}
+use Rattle.uv_shown.proofs.PrintableLemmas.{ascii, seen}
 
 -- ---- a byte
 

@@ -4,7 +4,7 @@ use Rattle.uv_model.specs.declared.mend_kind.MendKind.{MendKind}
 use Rattle.uv_report.specs.declared.diagnostic.Diagnostic.{Diagnostic}
 use Rattle.uv_report.specs.declared.diagnostic.Fix.{Fix}
 use Rattle.uv_report.specs.declared.diagnostic.Region.{Region}
-use Rattle.uv_sentences.specs.Places.Window.{carried}
+use Rattle.uv_shown.specs.Places.Window.{carried}
 
 -- what to write in place of a text: where that is, if a program may write there, how it is to that, whether it is
 -- offered, and whether the message says what to write instead
@@ -15,16 +15,20 @@ pub record FixView : Type 0 where
   pub is_offered : Bool
   pub is_named : Bool
 
--- what is wrong somewhere in a file: where, by which rule, which is told of there, the message, the text and the place in
--- it, how many are the same before it, and what to write in place of the text
+-- what is wrong somewhere in a file: where, by which rule, which is listed so and told of there, the message, the text,
+-- whether that is shown, the place in it and the one that the message names, how many are the same before it, and what to
+-- write in place of the text
 pub record DiagnosticView : Type 0 where
   pub file : List ℕ
   pub region : Region
   pub rule : List ℕ
+  pub index : Option ℕ
   pub uri : List ℕ
   pub message : List ℕ
   pub text : List ℕ
+  pub is_shown : Bool
   pub place : ℕ
+  pub named : ℕ
   pub repeat : ℕ
   pub fix : Option FixView
 
@@ -44,10 +48,13 @@ diagnostic_view diagnostic = record {
   file = diagnostic.file.now;
   region = diagnostic.region;
   rule = diagnostic.rule.now;
+  index = diagnostic.index;
   uri = diagnostic.uri.now;
   message = diagnostic.message.now;
   text = diagnostic.text.now;
+  is_shown = diagnostic.is_shown;
   place = diagnostic.place;
+  named = diagnostic.named;
   repeat = diagnostic.repeat;
   fix = option_map fix_view diagnostic.fix;
 }

@@ -17,15 +17,16 @@ use Rattle.uv_report.specs.Formats.Json.{json_line}
 use Rattle.uv_report.specs.Formats.Junit.{junit_begin, junit_end, junit_text, suite_begin, suite_end}
 use Rattle.uv_report.specs.Formats.Rdjson.{rdjson_begin, rdjson_end, rdjson_text}
 use Rattle.uv_report.specs.Formats.Sarif.{sarif_begin, sarif_end, sarif_text}
+use Rattle.uv_shown.specs.Rule.{RuleView}
 
--- what a report begins with; in SARIF that says what its columns count
-abbrev pub begin_text : Format → Columns → List ℕ
-begin_text Sarif columns = sarif_begin columns
-begin_text Checkstyle columns = document_begin
-begin_text Junit columns = junit_begin
-begin_text Gitlab columns = gitlab_begin
-begin_text Rdjson columns = rdjson_begin
-begin_text _ columns = []
+-- what a report begins with; in SARIF that says what its columns count, and lists these rules
+abbrev pub begin_text : Format → Columns → List RuleView → List ℕ
+begin_text Sarif columns rules = sarif_begin columns rules
+begin_text Checkstyle columns rules = document_begin
+begin_text Junit columns rules = junit_begin
+begin_text Gitlab columns rules = gitlab_begin
+begin_text Rdjson columns rules = rdjson_begin
+begin_text _ columns rules = []
 
 -- what is before the diagnostics of a file
 abbrev pub file_begin_text : Format → List ℕ → List ℕ

@@ -2,12 +2,12 @@
 ghost use Rattle.std.specs.Cow.{cow_str_bytes};
 ghost use Rattle.std.specs.Prelude.{◌≡◌, IfOk, option_map};
 ghost use Rattle.uv_report.specs.Diagnostic as spec;
-ghost use Rattle.uv_sentences.specs.Places.Window as shown;
+ghost use Rattle.uv_shown.specs.Places.Window as shown;
 
 use std::alloc::{AllocError, Global};
 use std::borrow::CowStr;
 use uv_model::MendKind;
-use uv_sentences::{SeenText, carried};
+use uv_shown::{SeenText, carried};
 
 /// Where something is in a file. Lines and columns count from 1. C hands it over in this layout.
 #[repr(C)]
@@ -47,14 +47,20 @@ pub struct Diagnostic<'a> {
     pub region: Region,
     /// The name of the violated rule, which may be one that isn't in this library.
     pub rule: &'a str,
+    /// The index of that rule among the rules that the report lists, from 0, if it is one of them.
+    pub index: Option<u64>,
     /// The address of a page on that rule, or nothing.
     pub uri: &'a str,
     /// What is wrong, as a sentence without its full stop.
     pub message: &'a str,
     /// The text, without its line end. If it isn't UTF-8, U+FFFD stands for what can't be read.
     pub text: &'a SeenText<'a>,
+    /// Whether the text is shown: it is what is wrong, and not only in place of what isn't carried.
+    pub is_shown: bool,
     /// The place at which it is wrong, in code points from 0.
     pub place: usize,
+    /// The place of the code point that the message names, in code points from 0: mostly the same.
+    pub named: usize,
     /// How many diagnostics of the file before it have the same rule, place and text, as far as that is counted.
     pub repeat: u64,
     /// What to write in its place, if that is to be said. A format whose `Format::shows_mended` is false leaves it out.

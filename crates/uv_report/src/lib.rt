@@ -16,7 +16,4 @@ pub use format::Format;
 pub use look::Look;
 pub use places::column::Columns;
 pub use places::column_counter::ColumnCounter;
-pub use report::{
-    begin_of, end_of, file_begin_of, file_end_of, push, push_begin, push_file_begin, push_file_end,
-    separator,
-};
+pub use report::{begin_of, end_of, file_begin_of, file_end_of, push, separator};

@@ -1,11 +1,12 @@
 //! Reports in any format. A report has a beginning, then for each file a beginning, diagnostics and an end, and then an
 //! end.
 ghost use Rattle.std.specs.Cow.{cow_str_bytes};
-ghost use Rattle.std.specs.Prelude.{◌≡◌, ◌⊎◌, ◌++◌, IfErr, IfOk, OnErr, OnOk, string_bytes};
+ghost use Rattle.std.specs.Prelude.{◌≡◌, ◌⊎◌, ◌++◌, IfErr, IfOk, OnOk, map, string_bytes};
 ghost use Rattle.uv_report.specs.Diagnostic.{diagnostic_view};
 ghost use Rattle.uv_report.specs.Report.{begin_text, diagnostic_text, end_text, file_begin_text, file_end_text};
 ghost use Rattle.uv_report.specs.Report.{separator};
 ghost use Rattle.uv_report.specs.declared.format.Format.TheVariants.{Checkstyle, Junit, Sarif};
+ghost use Rattle.uv_shown.specs.Rule.{rule_view};
 
 use crate::completion::Completion;
 use crate::diagnostic::Diagnostic;
@@ -23,35 +24,23 @@ use crate::look::Look;
 use crate::places::column::Columns;
 use std::alloc::{AllocError, Global};
 use std::borrow::CowStr;
+use uv_shown::ShownRule;
 
-/// Pushes what a report begins with. In SARIF that says what columns count, if SARIF has a word for it. If an
-/// allocation fails, the text stays as it was.
-pub fn push_begin(
-    alloc: Global,
-    text: &mut String,
-    format: Format,
-    columns: Columns,
-) -> Result<(), AllocError>
-    ensures ok { OnOk result (string_bytes text.new ≡ string_bytes text.old ++ begin_text format columns) }
-    ensures err { OnErr result (string_bytes text.new ≡ string_bytes text.old) }
-{
-    let begin = begin_of(alloc, format, columns)?;
-    text.push_str(begin.as_str())
-}
-
-/// What a report begins with. It takes memory only in SARIF, which lists its rules there.
+/// What a report begins with. In SARIF that says what columns count, if SARIF has a word for it, and lists these rules;
+/// only there it takes memory.
 pub fn begin_of(
     alloc: Global,
     format: Format,
     columns: Columns,
+    rules: &[ShownRule<'_>],
 ) -> Result<CowStr<'static>, AllocError>
-    ensures text { IfOk result (λ begin. cow_str_bytes begin ≡ begin_text format columns) }
+    ensures text { IfOk result (λ begin. cow_str_bytes begin ≡ begin_text format columns (map rule_view rules.now)) }
     ensures memory { IfErr result (λ fault. format ≡ Sarif) }
 {
     match format {
         Format::Sarif => {
             let mut begin = String::new(alloc);
-            push_sarif_begin(alloc, &mut begin, columns)?;
+            push_sarif_begin(alloc, &mut begin, columns, rules)?;
             Ok(CowStr::Owned(begin))
         }
         Format::Checkstyle => Ok(CowStr::Borrowed(CHECKSTYLE_BEGIN)),
@@ -62,22 +51,8 @@ pub fn begin_of(
     }
 }
 
-/// Pushes what comes before the diagnostics of a file: a start tag in the formats of Checkstyle and JUnit, for JUnit
-/// with a test that passes, and nothing in the others. If an allocation fails, the text stays as it was.
-pub fn push_file_begin(
-    alloc: Global,
-    text: &mut String,
-    format: Format,
-    file: &str,
-) -> Result<(), AllocError>
-    ensures ok { OnOk result (string_bytes text.new ≡ string_bytes text.old ++ file_begin_text format file.now) }
-    ensures err { OnErr result (string_bytes text.new ≡ string_bytes text.old) }
-{
-    let begin = file_begin_of(alloc, format, file)?;
-    text.push_str(begin.as_str())
-}
-
-/// What comes before the diagnostics of a file. It takes memory only in the two formats that write something there.
+/// What comes before the diagnostics of a file: a start tag in the formats of Checkstyle and JUnit, for JUnit with a test
+/// that passes, and nothing in the others. Only in these two it takes memory.
 pub fn file_begin_of(alloc: Global, format: Format, file: &str) -> Result<String, AllocError>
     ensures text { IfOk result (λ begin. string_bytes begin ≡ file_begin_text format file.now) }
     ensures memory { IfErr result (λ fault. (format ≡ Checkstyle) ⊎ (format ≡ Junit)) }
@@ -134,16 +109,8 @@ pub fn push(
     }
 }
 
-/// Pushes what comes after the diagnostics of a file: an end tag in the formats of Checkstyle and JUnit, and nothing in
-/// the others. If an allocation fails, the text stays as it was.
-pub fn push_file_end(text: &mut String, format: Format) -> Result<(), AllocError>
-    ensures ok { OnOk result (string_bytes text.new ≡ string_bytes text.old ++ file_end_text format) }
-    ensures err { OnErr result (string_bytes text.new ≡ string_bytes text.old) }
-{
-    text.push_str(file_end_of(format))
-}
-
-/// What comes after the diagnostics of a file. It takes no memory.
+/// What comes after the diagnostics of a file: an end tag in the formats of Checkstyle and JUnit, and nothing in the
+/// others. It takes no memory.
 pub fn file_end_of(format: Format) -> &'static str
     ensures { result.now ≡ file_end_text format }
 {

@@ -1,3 +1,2 @@
--- The sentence on a text, and which place that names.
+-- The sentence on a text.
 pub mod Message
-pub mod Named

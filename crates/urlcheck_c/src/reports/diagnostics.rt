@@ -14,7 +14,9 @@ use crate::written::{Written, given};
 use std::alloc::{AllocError, Global};
 use std::borrow::CowStr;
 use uv_report::{Diagnostic, Fix, Format, Look, Region, push, separator};
-use uv_sentences::{SeenText, is_named};
+use uv_rules::{LineViolation, rule_index};
+use uv_sentences::{KnownText, is_named};
+use uv_shown::SeenText;
 use uv_text::count_code_points;
 
 /// The numbers of a diagnostic.
@@ -33,6 +35,8 @@ pub struct ReportedNumbers {
     pub kind: u32,
     /// Whether that is offered: not 0 for yes.
     pub offered: u32,
+    /// The place of the code point that the message names, in code points from 0; one before `place` stands for that.
+    pub named: usize,
 }
 
 /// The texts of a diagnostic, as bytes.
@@ -104,7 +108,7 @@ fn written(
 ) -> Written
     ensures { spec.IsReportedAnswer format look is_first numbers.now (texts_view texts.entry) out.old out.new result }
 {
-    let text = match text_found(texts.text, numbers.place) {
+    let text = match text_found(texts.text, named_place(numbers)) {
         Ok(text) => text,
         Err(found) => return Written::none(found),
     };
@@ -159,7 +163,14 @@ fn told_within(alloc: Global, message: &str, within: &str) -> Result<String, All
     format!(in alloc; "{message}, in {within}")
 }
 
-// The text that is wrong at a place, or why there isn't one.
+// The place of the code point that the message names.
+fn named_place(numbers: &ReportedNumbers) -> usize
+    ensures { result ≡ spec.named_place numbers.now }
+{
+    numbers.place.max(numbers.named)
+}
+
+// The text that has a place, or why there isn't one.
 fn text_found<'t>(bytes: &'t [u8], place: usize) -> Result<&'t str, Finding>
     ensures { IsTextFound bytes.now place result }
 {
@@ -191,14 +202,24 @@ fn diagnostic_read<'t>(
         file,
         region: numbers.region,
         rule,
+        index: rule_index(rule),
         uri,
         message,
         text,
+        is_shown: is_shown(rule, text.as_str()),
         place: numbers.place,
+        named: named_place(numbers),
         repeat: numbers.repeat,
         fix,
     };
     Ok((diagnostic, within))
+}
+
+// Whether a text is shown that violates the rule with this name: it isn't empty, or the rule isn't one of lines.
+fn is_shown(rule: &str, text: &str) -> bool
+    ensures { result ≡ spec.is_shown rule.now text.now }
+{
+    !text.is_empty() || LineViolation::of_name(rule).is_none()
 }
 
 // What to write in place of this text, if the numbers say so; or why they are wrong.
@@ -222,7 +243,7 @@ fn fix_read<'t>(
         text,
         kind,
         is_offered: numbers.offered != 0,
-        is_named: is_named(refused),
+        is_named: is_named(&KnownText::new(refused.as_str())),
     }))
 }
 

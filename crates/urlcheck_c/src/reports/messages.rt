@@ -5,13 +5,15 @@ ghost use Rattle.urlcheck_c.specs.Request.{given};
 ghost use Rattle.urlcheck_c.specs.Violation.{IsMessageAnswer, IsMessageGiven, IsViolationRead};
 
 use crate::bases::{Base, CheckRequest, asked, given_base};
+use crate::buffers::write_prefix;
 use crate::finding::{CallOutcome, Finding};
 use crate::reports::report_numbers::violation_of;
-use crate::written::{Written, text_given};
+use crate::written::Written;
 use std::alloc::{AllocError, Global};
 use uv_grammar::{BaseKind, is_valid_of_kind, wider_profile};
 use uv_model::Profile;
-use uv_sentences::{Checked, LineViolation, SeenText, Wording, message};
+use uv_rules::LineViolation;
+use uv_sentences::{Checked, KnownText, PlacedMessage, Wording, is_by_choice, message};
 use uv_text::count_code_points;
 
 /// What is wrong with a text that is checked, alone or against a base.
@@ -25,7 +27,7 @@ pub(crate) struct FoundViolation<'t> {
 
 /// Writes the sentence on a violation of a text by a profile, alone or against a base as `urlcheck_check` has it, at a
 /// place in code points, without its full stop: what compilers print after `error: `. The wording is one of four, by
-/// its number.
+/// its number. The answer has the place of the code point that the sentence names.
 #[unsafe(no_mangle)]
 pub extern "C" fn urlcheck_message(
     alloc: Global,
@@ -82,10 +84,13 @@ fn violation_read<'t>(
 
 // Writes the sentence by this wording.
 fn said(alloc: Global, found: &FoundViolation<'_>, wording: Wording, out: &mut [u8]) -> Written
-    ensures { IsMessageGiven out.old out.new result }
+    ensures { IsMessageGiven found.now.request.text.now out.old out.new result }
 {
     match sentence(alloc, found, wording) {
-        Ok(text) => text_given(text.as_str(), out),
+        Ok(said) => Written {
+            found: Finding::placed(CallOutcome::Done, found.request.text, said.place),
+            length: write_prefix(said.text.as_bytes(), out),
+        },
         Err(AllocError) => Written::refused(CallOutcome::Memory),
     }
 }
@@ -95,11 +100,11 @@ fn sentence(
     alloc: Global,
     found: &FoundViolation<'_>,
     wording: Wording,
-) -> Result<String, AllocError>
-    ensures { IfOk result (λ text. IsMessage (string_bytes text)) }
+) -> Result<PlacedMessage, AllocError>
+    ensures { IfOk result (λ said. IsMessage (string_bytes said.text)) }
 {
     let request = &found.request;
-    let accepted_by = if found.violation.is_by_choice() {
+    let accepted_by = if is_by_choice(found.violation) {
         accepting_profile(alloc, request)?
     } else {
         None
@@ -112,7 +117,7 @@ fn sentence(
     message(
         alloc,
         checked,
-        &SeenText::new(request.text),
+        &KnownText::new(request.text),
         found.violation,
     )
 }

@@ -5,7 +5,7 @@ ghost use Rattle.urlcheck_c.specs.ReportNumbers as spec;
 use crate::names::rule_of;
 use uv_model::{MendKind, Refusal};
 use uv_report::{Columns, Completion, Format, Look};
-use uv_sentences::{LineViolation, LocatedFault};
+use uv_rules::{LineViolation, LocatedFault};
 
 /// The format with this number.
 pub(crate) fn format_of(number: u32) -> Option<Format>

@@ -1,8 +1,7 @@
 -- A diagnostic with the line that it is about, a caret below what its message names, and what to write in place of the
--- line. The diagnostic on a line that isn't checked and of which no text is carried, as one that is too long, has no
--- line below it.
-use Rattle.std.specs.Prelude.{ℕ, Bool, true, false, not, ◌==◌, ◌||◌, List, [], ◌++◌, codes, if◌then◌else◌, is_none}
-use Rattle.std.specs.Prelude.{length, replicate, take, Option, Some, None}
+-- line. A diagnostic whose text isn't shown, as one on a line that is too long, has no line below it.
+use Rattle.std.specs.Prelude.{ℕ, Bool, true, false, not, ◌==◌, ◌||◌, List, [], ◌++◌, codes, if◌then◌else◌}
+use Rattle.std.specs.Prelude.{replicate, take, Option, Some, None}
 use Rattle.std.specs.List.{flat_map}
 use Rattle.std.specs.Str.{chars}
 use Rattle.uv_model.specs.declared.mend_kind.MendKind.{MendKind}
@@ -11,13 +10,11 @@ use Rattle.uv_report.specs.declared.formats.caret.TheConstants.{HELP, SAME_NOTE,
 use Rattle.uv_report.specs.declared.look.Look.{Look}
 use Rattle.uv_report.specs.Diagnostic.{DiagnosticView, FixView}
 use Rattle.uv_report.specs.Look.{cyan, painted, red}
-use Rattle.uv_sentences.specs.declared.escaping.escapes.Escapes.TheVariants.{Shown, Copied}
+use Rattle.uv_shown.specs.declared.escaping.escapes.Escapes.TheVariants.{Shown, Copied}
 use Rattle.uv_report.specs.Places.Column.{shown_width}
-use Rattle.uv_sentences.specs.Escaping.Escapes.{escaped}
-use Rattle.uv_sentences.specs.LineViolation.{named_violation}
+use Rattle.uv_shown.specs.Escaping.Escapes.{escaped}
 use Rattle.uv_report.specs.Formats.Gnu.{gnu_text}
-use Rattle.uv_sentences.specs.Sentences.Named.{named_place}
-use Rattle.uv_sentences.specs.Places.Window.{window, window_place}
+use Rattle.uv_shown.specs.Places.Window.{window, window_place}
 
 -- what is below a code point: a tab below a tab, otherwise spaces
 abbrev pub below : ℕ → List ℕ
@@ -37,17 +34,9 @@ caret_lines look line place =
 unfoldable pub window_lines : Look → List ℕ → ℕ → List ℕ
 window_lines look line place = caret_lines look (window line place) (window_place line place)
 
--- the diagnostic carries the text that is wrong: one that isn't empty, or also an empty one, but by the rules of lines
--- that aren't checked
-abbrev pub shows_line : List ℕ → List ℕ → Bool
-shows_line rule line = not (length line == 0) || is_none (named_violation rule)
-
--- the two lines, where it carries that: the caret is below the code point that the message names
+-- the two lines, where the text is shown: the caret is below the code point that the message names
 abbrev pub shown_lines : Look → DiagnosticView → List ℕ
-shown_lines look found =
-    if shows_line found.rule found.text
-    then window_lines look found.text (named_place found.message found.text found.place)
-    else []
+shown_lines look found = if found.is_shown then window_lines look found.text found.named else []
 
 -- how a mended text is named that isn't offered, by how it is to the refused one, in the words of the code, which the
 -- runs compare

@@ -1,8 +1,8 @@
 -- A diagnostic as an element of a document of Checkstyle, in XML 1.0.
 use Rattle.std.specs.Prelude.{ℕ, List, ◌++◌, codes, decimal}
-use Rattle.uv_sentences.specs.declared.escaping.escapes.Escapes.TheVariants.{Attribute}
+use Rattle.uv_shown.specs.declared.escaping.escapes.Escapes.TheVariants.{Attribute}
 use Rattle.uv_report.specs.Diagnostic.{DiagnosticView}
-use Rattle.uv_sentences.specs.Escaping.Escapes.{escaped}
+use Rattle.uv_shown.specs.Escaping.Escapes.{escaped}
 
 -- what a document begins with
 abbrev pub document_begin : List ℕ

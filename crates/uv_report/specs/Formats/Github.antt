@@ -1,8 +1,8 @@
 -- A diagnostic as a workflow command of GitHub (Workflow commands for GitHub Actions, Setting an error message).
 use Rattle.std.specs.Prelude.{ℕ, List, ◌++◌, codes, decimal}
-use Rattle.uv_sentences.specs.declared.escaping.escapes.Escapes.TheVariants.{Message, Property}
+use Rattle.uv_shown.specs.declared.escaping.escapes.Escapes.TheVariants.{Message, Property}
 use Rattle.uv_report.specs.Diagnostic.{DiagnosticView}
-use Rattle.uv_sentences.specs.Escaping.Escapes.{escaped}
+use Rattle.uv_shown.specs.Escaping.Escapes.{escaped}
 
 -- `::error file=FILE,line=LINE,col=COLUMN,title=RULE::SENTENCE` and a line feed
 unfoldable pub github_text : DiagnosticView → List ℕ

@@ -1,10 +1,10 @@
 -- A diagnostic as compilers write it (GNU Coding Standards, Formatting Error Messages).
 use Rattle.std.specs.Prelude.{ℕ, List, ◌++◌, codes, decimal}
 use Rattle.uv_report.specs.declared.look.Look.{Look}
-use Rattle.uv_sentences.specs.declared.escaping.escapes.Escapes.TheVariants.{Shown}
+use Rattle.uv_shown.specs.declared.escaping.escapes.Escapes.TheVariants.{Shown}
 use Rattle.uv_report.specs.Diagnostic.{DiagnosticView}
 use Rattle.uv_report.specs.Look.{bold, dim, painted, red}
-use Rattle.uv_sentences.specs.Escaping.Escapes.{escaped}
+use Rattle.uv_shown.specs.Escaping.Escapes.{escaped}
 
 -- `FILE:LINE:COLUMN:`
 abbrev pub place_text : DiagnosticView → List ℕ

@@ -4,7 +4,7 @@ use Rattle.json.specs.Json.{Json, Members, boolean, member, no_members, object, 
 use Rattle.uv_model.specs.MendKindName.{kind_name}
 use Rattle.uv_report.specs.Diagnostic.{DiagnosticView, FixView, carried_text}
 use Rattle.uv_report.specs.Json.{json_text, whole}
-use Rattle.uv_sentences.specs.Places.Window.{is_cut}
+use Rattle.uv_shown.specs.Places.Window.{is_cut}
 
 -- the object of a diagnostic, by its members' names; a text has only the escapes of JSON
 abbrev pub plain_value : DiagnosticView → Json

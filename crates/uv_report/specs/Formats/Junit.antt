@@ -2,9 +2,9 @@
 use Rattle.std.specs.Prelude.{ℕ, List, ◌++◌, codes, decimal}
 use Rattle.uv_report.specs.declared.completion.Completion.{Completion}
 use Rattle.uv_report.specs.declared.completion.Completion.TheVariants.{Whole, Unread, Stopped}
-use Rattle.uv_sentences.specs.declared.escaping.escapes.Escapes.TheVariants.{Attribute}
+use Rattle.uv_shown.specs.declared.escaping.escapes.Escapes.TheVariants.{Attribute}
 use Rattle.uv_report.specs.Diagnostic.{DiagnosticView, carried_text}
-use Rattle.uv_sentences.specs.Escaping.Escapes.{escaped}
+use Rattle.uv_shown.specs.Escaping.Escapes.{escaped}
 
 -- ---- the document
 

@@ -1,28 +1,22 @@
 -- A diagnostic as a result of SARIF 2.1.0 (sections 3.27 to 3.30, and 3.55 to 3.57), and the document round the
 -- results.
-use Rattle.std.specs.Prelude.{ℕ, ◌==◌, List, [], ◌++◌, codes, flat_map, if◌then◌else◌, length}
+use Rattle.std.specs.Prelude.{ℕ, ◌==◌, List, [], ◌∷◌, ◌++◌, codes, flat_map, if◌then◌else◌, length}
 use Rattle.std.specs.Prelude.{Option, Some, None}
 use Rattle.json.specs.Json.{Json, Members, boolean, member, no_members, object, string}
 use Rattle.uv_model.specs.declared.mend_kind.MendKind.{MendKind}
 use Rattle.uv_model.specs.declared.mend_kind.MendKind.TheVariants.{Same, Escaped, Changed}
-use Rattle.uv_model.specs.declared.rule.Rule.{Rule}
-use Rattle.uv_model.specs.Violations.Rule.{rules_in_order}
 use Rattle.uv_report.specs.declared.places.column.Columns.{Columns}
 use Rattle.uv_report.specs.declared.places.column.Columns.TheVariants.{CodePoints, Utf16}
 use Rattle.uv_report.specs.declared.completion.Completion.{Completion}
 use Rattle.uv_report.specs.declared.diagnostic.Region.{Region}
 use Rattle.uv_report.specs.declared.formats.sarif.TheConstants.{SAME_FIX, ESCAPED_FIX, CHANGED_FIX}
 use Rattle.uv_report.specs.declared.completion.Completion.TheVariants.{Whole, Unread, Stopped}
-use Rattle.uv_sentences.specs.declared.line_violation.LineViolation.{LineViolation}
-use Rattle.uv_sentences.specs.declared.line_violation.LineViolation.TheVariants.{Refused, NotUtf8, TooLong, NotLocated}
-use Rattle.uv_sentences.specs.declared.located_fault.LocatedFault.TheVariants.{NoFile}
 use Rattle.uv_report.specs.Diagnostic.{DiagnosticView, FixView, carried_text, edit_of}
 use Rattle.uv_report.specs.Formats.Uri.{uri_path}
 use Rattle.uv_report.specs.Formats.Fingerprint.{text_fingerprint}
 use Rattle.uv_report.specs.Json.{json_text, object_of, single, whole}
-use Rattle.uv_sentences.specs.LineViolation.{rule_index, violation_help, violation_name, violation_sentence}
-use Rattle.uv_sentences.specs.LineViolation.{violation_address}
-use Rattle.uv_sentences.specs.Places.Window.{is_cut}
+use Rattle.uv_shown.specs.Places.Window.{is_cut}
+use Rattle.uv_shown.specs.Rule.{RuleView}
 
 -- a text for people
 abbrev pub message : List ℕ → Json
@@ -31,41 +25,38 @@ message text = object_of (codes "text") text
 -- ---- the rules (section 3.49)
 
 -- the rule's name, and what is wrong where it is violated
-abbrev pub named_members : LineViolation → Members
-named_members violation =
-    member (codes "id") (string (violation_name violation))
-    (member (codes "shortDescription") (message (violation_sentence violation)) no_members)
+abbrev pub named_members : RuleView → Members
+named_members rule =
+    member (codes "id") (string rule.name)
+    (member (codes "shortDescription") (message rule.sentence) no_members)
 
--- a rule that is in no section of the URL Standard, and one that is in the section with this address
-abbrev pub line_rule : LineViolation → Json
-line_rule violation =
-    object (member (codes "fullDescription") (message (violation_help violation))
-    (member (codes "help") (message (violation_help violation)) (named_members violation)))
+-- a rule that has no page, and one that has this one
+abbrev pub bare_rule : RuleView → Json
+bare_rule rule =
+    object (member (codes "fullDescription") (message rule.help)
+    (member (codes "help") (message rule.help) (named_members rule)))
 
-abbrev pub text_rule : LineViolation → Json
-text_rule violation =
-    object (member (codes "fullDescription") (message (violation_help violation))
-    (member (codes "help") (message (violation_help violation))
-    (member (codes "helpUri") (string (violation_address violation)) (named_members violation))))
+abbrev pub paged_rule : RuleView → Json
+paged_rule rule =
+    object (member (codes "fullDescription") (message rule.help)
+    (member (codes "help") (message rule.help)
+    (member (codes "helpUri") (string rule.uri) (named_members rule))))
 
--- the rule of a violation
-unfoldable pub rule_value : LineViolation → Json
-rule_value violation =
-    if length (violation_address violation) == 0 then line_rule violation else text_rule violation
+unfoldable pub rule_value : RuleView → Json
+rule_value rule = if length rule.uri == 0 then bare_rule rule else paged_rule rule
 
 -- its text
-unfoldable pub rule_text : LineViolation → List ℕ
-rule_text violation = json_text (rule_value violation)
+unfoldable pub rule_text : RuleView → List ℕ
+rule_text rule = json_text (rule_value rule)
 
--- a rule of valid URL strings after a comma
-unfoldable pub next_rule : Rule → List ℕ
-next_rule rule = codes "," ++ rule_text (Refused (record { place = 0; rule = rule }))
+-- a rule after a comma
+unfoldable pub next_rule : RuleView → List ℕ
+next_rule rule = codes "," ++ rule_text rule
 
--- all of them, in the order of their indices
-unfoldable pub all_rules : List ℕ
-all_rules =
-    rule_text (NotUtf8 0) ++ (codes "," ++ (rule_text TooLong ++ (codes "," ++ (rule_text (NotLocated NoFile)
-    ++ flat_map next_rule rules_in_order))))
+-- all of them, with commas between them
+abbrev pub all_rules : List RuleView → List ℕ
+all_rules [] = []
+all_rules (first ∷ rest) = rule_text first ++ flat_map next_rule rest
 
 -- ---- the document
 
@@ -80,11 +71,11 @@ abbrev pub driver_begin : List ℕ
 driver_begin = codes "\"tool\":{\"driver\":{\"name\":\"urlcheck\",\"version\":\"0.5.0\",\"rules\":["
 
 -- what it begins with
-unfoldable pub sarif_begin : Columns → List ℕ
-sarif_begin columns =
+unfoldable pub sarif_begin : Columns → List RuleView → List ℕ
+sarif_begin columns rules =
     codes "{\"$schema\":\"https://json.schemastore.org/sarif-2.1.0.json\",\"version\":\"2.1.0\","
     ++ (codes "\"runs\":[{" ++ (column_kind columns
-    ++ (driver_begin ++ (all_rules ++ codes "]}},\"results\":[\n"))))
+    ++ (driver_begin ++ (all_rules rules ++ codes "]}},\"results\":[\n"))))
 
 -- a message to the one who reads how the run went
 abbrev pub notification : List ℕ → List ℕ
@@ -146,7 +137,7 @@ violation_members found =
     member (codes "properties") (object (member (codes "cut") (boolean (is_cut found.text))
     (member (codes "text") (string (carried_text found)) no_members)))
     (member (codes "ruleId") (string found.rule)
-    (index_members (rule_index found.rule)))
+    (index_members found.index))
 
 -- The members of each result. What tells it from another in a later run too, wherever it is then (section 3.27.17), is
 -- by a name whose number rises where it is made in another way.

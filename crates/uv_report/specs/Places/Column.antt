@@ -5,7 +5,7 @@ use Rattle.std.specs.Str.{bytes_eq, chars}
 use Rattle.unicode_width.specs.Width.{char_width}
 use Rattle.uv_report.specs.declared.places.column.Columns.{Columns}
 use Rattle.uv_report.specs.declared.places.column.Columns.TheVariants.{CodePoints, Bytes, Utf16, Screen}
-use Rattle.uv_sentences.specs.Escaping.Escapes.{is_hidden}
+use Rattle.uv_shown.specs.Escaping.Escapes.{is_hidden}
 
 -- ---- the units
 

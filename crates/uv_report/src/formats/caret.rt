@@ -1,13 +1,13 @@
 //! Diagnostics with the line that they are about, a caret below the place, and what to write in place of the line.
 ghost use Rattle.std.specs.Prelude.{◌≡◌, ◌++◌, OnOk, option_map, replicate, string_bytes, take};
 ghost use Rattle.std.specs.Str.{chars};
-ghost use Rattle.uv_sentences.specs.declared.escaping.escapes.Escapes.TheVariants.{Copied, Shown};
-ghost use Rattle.uv_sentences.specs.Escaping.Escapes.{escaped};
+ghost use Rattle.uv_shown.specs.declared.escaping.escapes.Escapes.TheVariants.{Copied, Shown};
+ghost use Rattle.uv_shown.specs.Escaping.Escapes.{escaped};
 ghost use Rattle.uv_report.specs.Diagnostic.{diagnostic_view, fix_view};
-ghost use Rattle.uv_sentences.specs.Places.Window.{window};
+ghost use Rattle.uv_shown.specs.Places.Window.{window};
 ghost use Rattle.uv_report.specs.Formats.Caret.{below, caret_lines, caret_text, help_rest, help_text, help_word};
 ghost use Rattle.uv_report.specs.Formats.Caret.{help_words, named_as};
-ghost use Rattle.uv_report.specs.Formats.Caret.{padding, shown_lines, shows_line, window_lines};
+ghost use Rattle.uv_report.specs.Formats.Caret.{padding, shown_lines, window_lines};
 ghost use Rattle.uv_report.specs.Look.{cyan, painted};
 
 use crate::diagnostic::{Diagnostic, Fix};
@@ -16,10 +16,7 @@ use crate::look::Look;
 use crate::places::column::shown_width;
 use std::alloc::{AllocError, Global};
 use uv_model::MendKind;
-use uv_sentences::{
-    LineViolation, SeenText, cut_out, is_printable_text, named_place, push_copied,
-    push_shown as push_shown_text,
-};
+use uv_shown::{SeenText, cut_out, is_printable_text, push_copied, push_shown as push_shown_text};
 
 // What is after `help:`, before a mended text that is offered, and after `note:`, before one that isn't, by how it is
 // to the refused one.
@@ -35,7 +32,7 @@ const CHANGED_NOTE: &str = " a valid URL string that is near it is ";
 const SPACES: &str =
     "                                                                                                ";
 
-/// Pushes the line of `gnu`; if a text is carried, what is shown of the line and the line with the caret; and if there
+/// Pushes the line of `gnu`; if the text is shown, what is shown of the line and the line with the caret; and if there
 /// is a mended text, `help: write TEXT`, or a note that names one that isn't offered, unless the message says what to
 /// write.
 #[tactic(auto, unfolding(crate::specs::Formats::Caret::caret_text))]
@@ -54,7 +51,7 @@ pub(crate) fn push_caret(
     Ok(())
 }
 
-// Pushes what is shown of a line, and a caret below what the message names, if the wrong text is carried.
+// Pushes what is shown of a line, and a caret below what the message names, if the line is shown.
 fn push_shown(
     alloc: Global,
     text: &mut String,
@@ -64,22 +61,15 @@ fn push_shown(
     ensures { OnOk result (string_bytes text.new
         ≡ string_bytes text.old ++ shown_lines look (diagnostic_view found.now)) }
 {
-    if !shows_line(found.rule, found.text.as_str()) {
-        return Ok(());
+    if found.is_shown {
+        push_window(alloc, text, look, found.text, found.named)
+    } else {
+        Ok(())
     }
-    let named = named_place(found.message, found.text, found.place);
-    push_window(alloc, text, look, found.text, named)
-}
-
-// Whether the wrong text is carried: always if it isn't empty, and if it is empty unless the line wasn't checked.
-fn shows_line(rule: &str, line: &str) -> bool
-    ensures { result ≡ shows_line rule.now line.now }
-{
-    !line.is_empty() || LineViolation::of_name(rule).is_none()
 }
 
 // Pushes what is shown of a line, and a caret below one of its places. A line that is shown whole isn't copied.
-#[tactic(auto, unfolding(crate::specs::Formats::Caret::window_lines, uv_sentences::specs::Places::Window::window))]
+#[tactic(auto, unfolding(crate::specs::Formats::Caret::window_lines, uv_shown::specs::Places::Window::window))]
 fn push_window(
     alloc: Global,
     text: &mut String,
@@ -167,7 +157,7 @@ fn push_help_line(
 }
 
 // Pushes what is shown of a valid URL string around a place, as it may be copied.
-#[tactic(auto, unfolding(uv_sentences::specs::Places::Window::window))]
+#[tactic(auto, unfolding(uv_shown::specs::Places::Window::window))]
 fn push_part(
     alloc: Global,
     text: &mut String,

@@ -5,7 +5,7 @@ ghost use Rattle.uv_report.specs.Formats.Checkstyle.{checkstyle_text, file_begin
 
 use crate::diagnostic::Diagnostic;
 use std::alloc::{AllocError, Global};
-use uv_sentences::{Escapes, escaped, push_escaped};
+use uv_shown::{Escapes, escaped, push_escaped};
 
 /// What the document begins with.
 pub(crate) const CHECKSTYLE_BEGIN: &str =

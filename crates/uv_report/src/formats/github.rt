@@ -5,7 +5,7 @@ ghost use Rattle.uv_report.specs.Formats.Github.{github_text};
 
 use crate::diagnostic::Diagnostic;
 use std::alloc::{AllocError, Global};
-use uv_sentences::{Escapes, escaped};
+use uv_shown::{Escapes, escaped};
 
 /// Pushes the command `error` with its properties and its message, and a line feed.
 #[tactic(auto, unfolding(crate::specs::Formats::Github::github_text))]

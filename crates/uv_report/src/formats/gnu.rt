@@ -6,7 +6,7 @@ ghost use Rattle.uv_report.specs.Formats.Gnu.{gnu_line, gnu_text};
 use crate::diagnostic::Diagnostic;
 use crate::look::Look;
 use std::alloc::{AllocError, Global};
-use uv_sentences::push_shown;
+use uv_shown::push_shown;
 
 // What a line has besides what the diagnostic says.
 #[derive(Clone, Copy)]

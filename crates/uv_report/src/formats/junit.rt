@@ -6,7 +6,7 @@ ghost use Rattle.uv_report.specs.Formats.Junit as spec;
 use crate::completion::Completion;
 use crate::diagnostic::Diagnostic;
 use std::alloc::{AllocError, Global};
-use uv_sentences::{Escapes, escaped, push_escaped};
+use uv_shown::{Escapes, escaped, push_escaped};
 
 /// What the document begins with.
 pub(crate) const JUNIT_BEGIN: &str =

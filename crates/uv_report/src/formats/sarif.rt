@@ -2,12 +2,12 @@
 ghost use Rattle.json.specs.Json.{object};
 ghost use Rattle.json.specs.Token.{key};
 ghost use Rattle.json.specs.Tree.{json_tokens, members_tokens};
-ghost use Rattle.std.specs.Prelude.{◌≡◌, ◌∷◌, ◌++◌, IfOk, OnOk, codes, flat_map, string_bytes};
+ghost use Rattle.std.specs.Prelude.{◌≡◌, ◌∷◌, ◌++◌, IfOk, OnOk, codes, flat_map, map, string_bytes};
 ghost use Rattle.uv_report.specs.Diagnostic.{carried_text, diagnostic_view, edit_view};
 ghost use Rattle.uv_report.specs.Formats.Uri as uris;
 ghost use Rattle.uv_report.specs.Formats.Sarif as spec;
 ghost use Rattle.uv_report.specs.Json.{single};
-ghost use Rattle.uv_sentences.specs.LineViolation.{rule_index};
+ghost use Rattle.uv_shown.specs.Rule.{rule_view};
 
 use crate::completion::Completion;
 use crate::diagnostic::{Diagnostic, Fix, Region};
@@ -16,8 +16,8 @@ use crate::formats::uri::push_uri_path;
 use crate::json_text::{JsonText, Piece};
 use crate::places::column::Columns;
 use std::alloc::{AllocError, Global};
-use uv_model::{MendKind, Refusal, Rule};
-use uv_sentences::{LineViolation, LocatedFault, rule_index};
+use uv_model::MendKind;
+use uv_shown::ShownRule;
 
 // What a fix does, by how the mended text is to the refused one.
 const SAME_FIX: &str = "write the same URL as a valid URL string";
@@ -26,14 +26,16 @@ const ESCAPED_FIX: &str = "percent-encode what is not allowed in a URL string";
 
 const CHANGED_FIX: &str = "write a valid URL string, which may be another URL";
 
-/// Pushes the document up to its results: the version, what columns count, the tool and its rules.
+/// Pushes the document up to its results: the version, what columns count, the tool and these rules.
 #[tactic(auto, unfolding(crate::specs::Formats::Sarif::sarif_begin))]
 pub(crate) fn push_sarif_begin(
     alloc: Global,
     text: &mut String,
     columns: Columns,
+    rules: &[ShownRule<'_>],
 ) -> Result<(), AllocError>
-    ensures { OnOk result (string_bytes text.new ≡ string_bytes text.old ++ spec.sarif_begin columns) }
+    ensures { OnOk result (string_bytes text.new
+        ≡ string_bytes text.old ++ spec.sarif_begin columns (map rule_view rules.now)) }
 {
     text.push_str(
         "{\"$schema\":\"https://json.schemastore.org/sarif-2.1.0.json\",\"version\":\"2.1.0\",",
@@ -41,7 +43,7 @@ pub(crate) fn push_sarif_begin(
     text.push_str("\"runs\":[{")?;
     text.push_str(column_kind(columns))?;
     text.push_str("\"tool\":{\"driver\":{\"name\":\"urlcheck\",\"version\":\"0.5.0\",\"rules\":[")?;
-    push_rules(alloc, text)?;
+    push_rules(alloc, text, rules)?;
     text.push_str("]}},\"results\":[\n")?;
     Ok(())
 }
@@ -75,23 +77,26 @@ pub(crate) fn sarif_end(completion: Completion) -> &'static str
     }
 }
 
-// Pushes the rules, after the three violations that aren't refusals.
-#[tactic(auto, unfolding(crate::specs::Formats::Sarif::all_rules))]
-fn push_rules(alloc: Global, text: &mut String) -> Result<(), AllocError>
-    ensures { OnOk result (string_bytes text.new ≡ string_bytes text.old ++ spec.all_rules) }
+// Pushes the rules, with commas between them.
+fn push_rules(alloc: Global, text: &mut String, rules: &[ShownRule<'_>]) -> Result<(), AllocError>
+    ensures { OnOk result (string_bytes text.new
+        ≡ string_bytes text.old ++ spec.all_rules (map rule_view rules.now)) }
 {
-    push_rule(alloc, text, LineViolation::NotUtf8(0))?;
-    text.push_str(",")?;
-    push_rule(alloc, text, LineViolation::TooLong)?;
-    text.push_str(",")?;
-    push_rule(alloc, text, LineViolation::NotLocated(LocatedFault::NoFile))?;
-    push_uri_rules(alloc, text, Rule::in_order().as_slice())?;
-    Ok(())
+    let Some((first, rest)) = rules.split_first() else {
+        return Ok(());
+    };
+    push_rule(alloc, text, *first)?;
+    push_next_rules(alloc, text, rest)
 }
 
-// Pushes each of the rules of valid URL strings after a comma.
-fn push_uri_rules(alloc: Global, text: &mut String, rules: &[Rule]) -> Result<(), AllocError>
-    ensures { OnOk result (string_bytes text.new ≡ string_bytes text.old ++ flat_map spec.next_rule rules.now) }
+// Pushes each of the rules after a comma.
+fn push_next_rules(
+    alloc: Global,
+    text: &mut String,
+    rules: &[ShownRule<'_>],
+) -> Result<(), AllocError>
+    ensures { OnOk result (string_bytes text.new
+        ≡ string_bytes text.old ++ flat_map (λ rule. spec.next_rule (rule_view rule)) rules.now) }
 {
     for rule in rules {
         push_next_rule(alloc, text, *rule)?;
@@ -99,70 +104,68 @@ fn push_uri_rules(alloc: Global, text: &mut String, rules: &[Rule]) -> Result<()
     Ok(())
 }
 
-// Pushes a comma, and a rule of valid URL strings.
+// Pushes a comma, and a rule.
 #[tactic(auto, unfolding(crate::specs::Formats::Sarif::next_rule))]
-fn push_next_rule(alloc: Global, text: &mut String, rule: Rule) -> Result<(), AllocError>
-    ensures { OnOk result (string_bytes text.new ≡ string_bytes text.old ++ spec.next_rule rule) }
+fn push_next_rule(alloc: Global, text: &mut String, rule: ShownRule<'_>) -> Result<(), AllocError>
+    ensures { OnOk result (string_bytes text.new
+        ≡ string_bytes text.old ++ spec.next_rule (rule_view rule.entry)) }
 {
     text.push_str(",")?;
-    push_rule(
-        alloc,
-        text,
-        LineViolation::Refused(Refusal { place: 0, rule }),
-    )?;
+    push_rule(alloc, text, rule)?;
     Ok(())
 }
 
-// Pushes what the document says of a violation's rule.
+// Pushes what the document says of a rule.
 #[tactic(auto, unfolding(crate::specs::Formats::Sarif::rule_text))]
-fn push_rule(alloc: Global, text: &mut String, violation: LineViolation) -> Result<(), AllocError>
-    ensures { OnOk result (string_bytes text.new ≡ string_bytes text.old ++ spec.rule_text violation) }
+fn push_rule(alloc: Global, text: &mut String, rule: ShownRule<'_>) -> Result<(), AllocError>
+    ensures { OnOk result (string_bytes text.new
+        ≡ string_bytes text.old ++ spec.rule_text (rule_view rule.entry)) }
 {
     let mut json = JsonText::new(alloc)?;
-    write_rule(&mut json, violation)?;
+    write_rule(&mut json, rule)?;
     json.push_to(text)?;
     Ok(())
 }
 
-// Writes a rule: what it requires, the address of its section if it has one, its name, and what is wrong where it is
+// Writes a rule: what it requires, the address of its page if it has one, its name, and what is wrong where it is
 // violated.
 #[tactic(auto, unfolding(crate::specs::Formats::Sarif::rule_value))]
-fn write_rule(json: &mut JsonText, violation: LineViolation) -> Result<(), AllocError>
-    ensures { OnOk result (json.new ≡ json.old ++ json_tokens (spec.rule_value violation)) }
+fn write_rule(json: &mut JsonText, rule: ShownRule<'_>) -> Result<(), AllocError>
+    ensures { OnOk result (json.new ≡ json.old ++ json_tokens (spec.rule_value (rule_view rule.entry))) }
 {
-    if violation.address().is_empty() {
-        write_line_rule(json, violation)
+    if rule.uri.is_empty() {
+        write_bare_rule(json, rule)
     } else {
-        write_text_rule(json, violation)
+        write_paged_rule(json, rule)
     }
 }
 
-// Writes a rule of lines.
-fn write_line_rule(json: &mut JsonText, violation: LineViolation) -> Result<(), AllocError>
-    ensures { OnOk result (json.new ≡ json.old ++ json_tokens (spec.line_rule violation)) }
+// Writes a rule that has no page.
+fn write_bare_rule(json: &mut JsonText, rule: ShownRule<'_>) -> Result<(), AllocError>
+    ensures { OnOk result (json.new ≡ json.old ++ json_tokens (spec.bare_rule (rule_view rule.entry))) }
 {
     json.write(&[
         Piece::Begin,
-        Piece::ObjectOf("fullDescription", "text", violation.help()),
-        Piece::ObjectOf("help", "text", violation.help()),
-        Piece::Text("id", violation.name()),
-        Piece::ObjectOf("shortDescription", "text", violation.sentence()),
+        Piece::ObjectOf("fullDescription", "text", rule.help),
+        Piece::ObjectOf("help", "text", rule.help),
+        Piece::Text("id", rule.name),
+        Piece::ObjectOf("shortDescription", "text", rule.sentence),
         Piece::End,
     ])?;
     Ok(())
 }
 
-// Writes a rule of valid URL strings.
-fn write_text_rule(json: &mut JsonText, violation: LineViolation) -> Result<(), AllocError>
-    ensures { OnOk result (json.new ≡ json.old ++ json_tokens (spec.text_rule violation)) }
+// Writes a rule that has one.
+fn write_paged_rule(json: &mut JsonText, rule: ShownRule<'_>) -> Result<(), AllocError>
+    ensures { OnOk result (json.new ≡ json.old ++ json_tokens (spec.paged_rule (rule_view rule.entry))) }
 {
     json.write(&[
         Piece::Begin,
-        Piece::ObjectOf("fullDescription", "text", violation.help()),
-        Piece::ObjectOf("help", "text", violation.help()),
-        Piece::Text("helpUri", violation.address()),
-        Piece::Text("id", violation.name()),
-        Piece::ObjectOf("shortDescription", "text", violation.sentence()),
+        Piece::ObjectOf("fullDescription", "text", rule.help),
+        Piece::ObjectOf("help", "text", rule.help),
+        Piece::Text("helpUri", rule.uri),
+        Piece::Text("id", rule.name),
+        Piece::ObjectOf("shortDescription", "text", rule.sentence),
         Piece::End,
     ])?;
     Ok(())
@@ -303,16 +306,16 @@ fn write_violation(
         Piece::End,
     ])?;
     json.text("ruleId", found.rule)?;
-    write_index(json, found.rule)?;
+    write_index(json, found.index)?;
     Ok(())
 }
 
 // Writes the member with the index of a rule among the rules of the document, if it is one of them, and ends the
 // result.
-fn write_index(json: &mut JsonText, rule: &str) -> Result<(), AllocError>
-    ensures { OnOk result (json.new ≡ json.old ++ members_tokens (spec.index_members (rule_index rule.now))) }
+fn write_index(json: &mut JsonText, index: Option<u64>) -> Result<(), AllocError>
+    ensures { OnOk result (json.new ≡ json.old ++ members_tokens (spec.index_members index)) }
 {
-    match rule_index(rule) {
+    match index {
         Some(index) => json.write(&[Piece::Number("ruleIndex", index), Piece::End]),
         None => json.write(&[Piece::End]),
     }

@@ -3,7 +3,7 @@ ghost use Rattle.std.specs.Prelude.{◌≡◌};
 ghost use Rattle.uv_report.specs.Places.Column as spec;
 
 use unicode_width::UnicodeWidthChar;
-use uv_sentences::is_hidden;
+use uv_shown::is_hidden;
 
 /// What columns count.
 #[derive(Clone, Copy, Debug, PartialEq, Eq)]

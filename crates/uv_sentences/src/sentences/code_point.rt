@@ -1,7 +1,7 @@
 //! What a code point is called: `U+` and its number, and if it is ASCII its name.
 
-use crate::escaping::escapes::is_hidden;
 use std::alloc::{AllocError, Global};
+use uv_shown::is_hidden;
 
 // The ASCII code points, by their numbers: `U+`, the number, and the name (Unicode Character Database).
 const ASCII_POINTS: [&str; 128] = [

@@ -1,35 +1,43 @@
 //! Why a host isn't a valid domain of a profile, as far as its text shows that.
 
-use crate::places::seen_text::SeenText;
+use crate::known_text::KnownText;
 use crate::sentences::authority::before_end;
 use crate::sentences::code_point::point_name;
 use crate::sentences::drive::is_file_link;
+use crate::sentences::message::PlacedMessage;
 use crate::sentences::pieces::{before, has_piece};
 use std::alloc::{AllocError, Global};
 use uv_model::{Profile, Rule, is_domain_mark, is_drive_letter};
 
-/// The sentence on the host that begins at a place of a line: that it is a drive letter, which code point may not be in
-/// it, what is wrong with one of its labels, or otherwise the rule's sentence.
-pub(crate) fn domain_sentence(
+/// What is reported about the host that begins at a place of a line: that it is a drive letter, which code point may not
+/// be in it, what is wrong with one of its labels, or otherwise the rule's sentence.
+pub(crate) fn domain_message(
     alloc: Global,
     profile: Profile,
-    line: &SeenText<'_>,
+    line: &KnownText<'_>,
     place: usize,
-) -> Result<String, AllocError> {
+) -> Result<PlacedMessage, AllocError> {
     let host = host_at(line, place);
     if is_file_link(line.as_str()) && is_drive_letter(host.as_bytes()) {
-        return String::from_str(
+        return PlacedMessage::of(
             alloc,
             "a drive letter is written after file:///, and not in place of a host",
+            place,
         );
     }
-    if let Some(c) = foreign_in(profile, host) {
-        return foreign_sentence(alloc, c, foreign_advice(line.as_str(), host, c));
+    if let Some((ahead, c)) = foreign_in(profile, host) {
+        return Ok(PlacedMessage {
+            text: foreign_sentence(alloc, c, foreign_advice(line.as_str(), host, c))?,
+            place: place.saturating_add(ahead),
+        });
     }
-    match host.chars().find(|c| is_read_as_foreign(profile, *c)) {
-        Some(c) => wide_sentence(alloc, c),
-        None => labels_sentence(alloc, profile, host),
+    if let Some((ahead, c)) = wide_in(profile, host) {
+        return Ok(PlacedMessage {
+            text: wide_sentence(alloc, c)?,
+            place: place.saturating_add(ahead),
+        });
     }
+    labels_message(alloc, profile, host, place)
 }
 
 // The sentence on a code point that isn't allowed in a domain.
@@ -71,20 +79,41 @@ fn is_after_link(line: &str, host: &str, c: char) -> bool {
     }
 }
 
-// The sentence on a host whose code points are all allowed.
-fn labels_sentence(alloc: Global, profile: Profile, host: &str) -> Result<String, AllocError> {
+// What is reported about a host at a place whose code points are all allowed.
+fn labels_message(
+    alloc: Global,
+    profile: Profile,
+    host: &str,
+    place: usize,
+) -> Result<PlacedMessage, AllocError> {
     let name = host.strip_suffix('.').unwrap_or(host);
     if let Some(fault) = label_fault(profile, name) {
-        return String::from_str(alloc, fault.sentence());
+        return PlacedMessage::of(alloc, fault.sentence(), place);
     }
     if profile == Profile::Standard && name.is_ascii() && name.len() > 253 {
-        return String::from_str(alloc, "this domain has more than 253 code points");
+        return PlacedMessage::of(alloc, "this domain has more than 253 code points", place);
     }
-    if let Some(c) = name.chars().find(|c| is_joiner(*c)) {
-        let name = point_name(alloc, c)?;
-        let name = name.as_str();
-        return format!(in alloc; "{name}, which nobody sees, is in this domain: leave it out");
+    if let Some((ahead, c)) = name.chars().enumerate().find(|(_, c)| is_joiner(*c)) {
+        return Ok(PlacedMessage {
+            text: joiner_sentence(alloc, c)?,
+            place: place.saturating_add(ahead),
+        });
     }
+    Ok(PlacedMessage {
+        text: encoded_sentence(alloc, name)?,
+        place,
+    })
+}
+
+// The sentence on a code point that joins letters or parts them.
+fn joiner_sentence(alloc: Global, c: char) -> Result<String, AllocError> {
+    let name = point_name(alloc, c)?;
+    let name = name.as_str();
+    format!(in alloc; "{name}, which nobody sees, is in this domain: leave it out")
+}
+
+// The sentence on a domain of which only what ToASCII makes of it is wrong: that a label isn't Punycode, if it is ASCII.
+fn encoded_sentence(alloc: Global, name: &str) -> Result<String, AllocError> {
     if !name.is_ascii() || has_piece(name, "%") {
         return String::from_str(alloc, Rule::HostDomain.sentence());
     }
@@ -105,9 +134,18 @@ fn has_one_prefix(name: &str) -> bool {
     name.split('.').filter(|label| has_prefix(label)).count() == 1
 }
 
-// The first code point for which a profile refuses a host, whatever else is in it.
-fn foreign_in(profile: Profile, host: &str) -> Option<char> {
-    host.chars().find(|c| is_foreign(profile, *c))
+// The first code point for which a profile refuses a host, whatever else is in it, after how many others it is.
+fn foreign_in(profile: Profile, host: &str) -> Option<(usize, char)> {
+    host.chars()
+        .enumerate()
+        .find(|(_, c)| is_foreign(profile, *c))
+}
+
+// The first code point for which a profile refuses a host, since it is read as an ASCII one, after how many others it is.
+fn wide_in(profile: Profile, host: &str) -> Option<(usize, char)> {
+    host.chars()
+        .enumerate()
+        .find(|(_, c)| is_read_as_foreign(profile, *c))
 }
 
 // Whether a host with this code point is refused, whatever else is in it. Under the parser's profile a host may be
@@ -134,7 +172,7 @@ fn narrow(c: char) -> Option<char> {
 }
 
 // The host that begins at a place of a line. No port can follow the host of a `file` link.
-fn host_at<'t>(line: &SeenText<'t>, place: usize) -> &'t str {
+fn host_at<'t>(line: &KnownText<'t>, place: usize) -> &'t str {
     let authority = before_end(line.rest_at(place));
     if is_file_link(line.as_str()) {
         authority

@@ -1,7 +1,7 @@
 //! What the author of a refused text likely meant, if that isn't what the text is mended to. It is a judgement, which
 //! no clause fixes: tests/runs/sentences.cases.sh has a row for each sign.
 
-use crate::places::seen_text::SeenText;
+use crate::known_text::KnownText;
 use crate::sentences::authority::{authority_of, before_query};
 use crate::sentences::drive::{has_barred_drive, without_slash};
 use crate::sentences::marks::Marks;
@@ -106,13 +106,13 @@ pub(crate) fn shown_intention(text: &str) -> Option<Intention> {
 }
 
 /// Whether a mended text is offered in place of a refused one: nothing suggests that something else was meant.
-pub fn is_offered(text: &SeenText<'_>, mended: &str) -> bool {
+pub fn is_offered(text: &KnownText<'_>, mended: &str) -> bool {
     text.shown_intention().is_none() && !is_another(text.as_str(), mended)
 }
 
 /// Whether the message on a refused text says what to write in its place: one of two schemes, or the link after a
 /// space. A mended text, which has all of it, would only mislead.
-pub fn is_named(text: &SeenText<'_>) -> bool {
+pub fn is_named(text: &KnownText<'_>) -> bool {
     matches!(
         text.shown_intention(),
         Some(Intention::TwoSchemes | Intention::LaterLink)

@@ -2,41 +2,70 @@
 
 use crate::sentences::authority::{authority_of, before_end};
 use crate::sentences::code_point::point_name;
+use crate::sentences::message::PlacedMessage;
 use crate::sentences::pieces::{after, before, has_piece};
 use std::alloc::{AllocError, Global};
 use std::net::{Ipv4Addr, Ipv6Addr};
 
-/// The sentence on a host that begins with `[`, with which this text begins.
-pub(crate) fn ipv6_sentence(alloc: Global, text: &str) -> Result<String, AllocError> {
+/// What is reported about a host that begins with `[`, with which this text begins, at this place of a line.
+pub(crate) fn ipv6_message(
+    alloc: Global,
+    text: &str,
+    place: usize,
+) -> Result<PlacedMessage, AllocError> {
     let authority = before_end(text);
     if !has_piece(authority, "]") {
-        return String::from_str(alloc, missing_bracket(after(authority, '[')));
+        return PlacedMessage::of(alloc, missing_bracket(after(authority, '[')), place);
     }
     let rest = after(authority, ']');
     if !rest.is_empty() && !rest.starts_with(':') {
-        return String::from_str(alloc, "nothing but a port can follow the ] of a host");
+        return PlacedMessage::of(
+            alloc,
+            "nothing but a port can follow the ] of a host",
+            place,
+        );
     }
     let address = before(after(authority, '['), ']');
     if has_piece(address, "%") && is_ipv6(before(address, '%')) {
-        return String::from_str(
+        return PlacedMessage::of(
             alloc,
             "an IPv6 address in a URL has no zone: leave out the % and what follows it",
+            place,
         );
     }
-    address_sentence(alloc, address)
+    address_message(alloc, address, place)
 }
 
-// The sentence on a text in brackets that isn't an IPv6 address.
-fn address_sentence(alloc: Global, address: &str) -> Result<String, AllocError> {
-    if let Some(c) = address.chars().find(|c| !is_of_address(*c)) {
-        let name = point_name(alloc, c)?;
-        let name = name.as_str();
-        return format!(in alloc; "{name} is not a hex digit of an IPv6 address");
+// What is reported about a text in brackets that isn't an IPv6 address. The `[` is at this place.
+fn address_message(
+    alloc: Global,
+    address: &str,
+    place: usize,
+) -> Result<PlacedMessage, AllocError> {
+    let foreign = address
+        .chars()
+        .enumerate()
+        .find(|(_, c)| !is_of_address(*c));
+    if let Some((ahead, c)) = foreign {
+        return Ok(PlacedMessage {
+            text: foreign_sentence(alloc, c)?,
+            place: place.saturating_add(ahead).saturating_add(1),
+        });
     }
     match address_fault(address) {
-        Some(said) => String::from_str(alloc, said),
-        None => counted_sentence(alloc, address),
+        Some(said) => PlacedMessage::of(alloc, said, place),
+        None => Ok(PlacedMessage {
+            text: counted_sentence(alloc, address)?,
+            place,
+        }),
     }
+}
+
+// The sentence on a code point that isn't allowed in an IPv6 address.
+fn foreign_sentence(alloc: Global, c: char) -> Result<String, AllocError> {
+    let name = point_name(alloc, c)?;
+    let name = name.as_str();
+    format!(in alloc; "{name} is not a hex digit of an IPv6 address")
 }
 
 // The sentence on a `[` that no `]` follows.

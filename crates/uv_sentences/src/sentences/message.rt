@@ -3,103 +3,134 @@
 ghost use Rattle.std.specs.Prelude.{IfOk, string_bytes};
 ghost use Rattle.uv_sentences.specs.Sentences.Message.{IsMessage};
 
-use crate::escaping::escapes::push_shown;
-use crate::escaping::printable::is_printable_text;
-use crate::line_violation::LineViolation;
-use crate::places::seen_text::SeenText;
+use crate::known_text::KnownText;
 use crate::sentences::code_point::point_name;
-use crate::sentences::domain::domain_sentence;
+use crate::sentences::domain::domain_message;
 use crate::sentences::ipv4::ipv4_sentence;
-use crate::sentences::ipv6::ipv6_sentence;
+use crate::sentences::ipv6::ipv6_message;
 use crate::sentences::start::start_sentence;
 use crate::sentences::wording::{Checked, rule_note};
 use std::alloc::{AllocError, Global};
 use uv_model::{Refusal, Rule};
+use uv_rules::LineViolation;
+use uv_shown::{is_printable_text, push_shown};
 
-// The sentence on a link that has credentials.
+// The sentence on a URL that has credentials, and on a link that has them.
 const CREDENTIALS: &str =
     "a URL string has no credentials: no user name, password or @ before its host";
+
+const LINK_CREDENTIALS: &str =
+    "a URL string has no credentials: no user name, password or @ before its host; leave \
+    them out";
 
 // The sentence on a link whose host is an IPv6 address without brackets.
 const BARE_IPV6: &str = "a host that is an IPv6 address is written in brackets";
 
-/// What is reported about a line that was checked like this, as a sentence without its full stop: one line, without
-/// anything that controls a terminal.
+/// What is reported about a line, and what that names.
+#[derive(Drop)]
+pub struct PlacedMessage {
+    /// A sentence without its full stop: one line, without anything that controls a terminal.
+    pub text: String,
+    /// The place of the code point that the sentence names, in code points from 0. It is the place of the violation, or
+    /// one further on: a host is refused at its first code point, and the sentence may name a later one.
+    pub place: usize,
+}
+
+impl PlacedMessage {
+    // This sentence on a place.
+    pub(crate) fn of(alloc: Global, said: &str, place: usize) -> Result<PlacedMessage, AllocError> {
+        Ok(PlacedMessage {
+            text: String::from_str(alloc, said)?,
+            place,
+        })
+    }
+}
+
+/// What is reported about a line that was checked like this.
 pub fn message(
     alloc: Global,
     checked: Checked,
-    line: &SeenText<'_>,
+    line: &KnownText<'_>,
     violation: LineViolation,
-) -> Result<String, AllocError>
-    ensures { IfOk result (λ text. IsMessage (string_bytes text)) }
+) -> Result<PlacedMessage, AllocError>
+    ensures { IfOk result (λ message. IsMessage (string_bytes message.text)) }
 {
-    let said = violation_sentence(alloc, checked, line, violation)?;
-    if is_printable_text(said.as_bytes()) {
+    let said = violation_message(alloc, checked, line, violation)?;
+    if is_printable_text(said.text.as_bytes()) {
         return Ok(said);
     }
     let mut text = String::new(alloc);
-    push_shown(&mut text, said.as_str())?;
-    Ok(text)
+    push_shown(&mut text, said.text.as_str())?;
+    Ok(PlacedMessage {
+        text,
+        place: said.place,
+    })
 }
 
 // What is reported about a line.
-fn violation_sentence(
+fn violation_message(
     alloc: Global,
     checked: Checked,
-    line: &SeenText<'_>,
+    line: &KnownText<'_>,
     violation: LineViolation,
-) -> Result<String, AllocError> {
+) -> Result<PlacedMessage, AllocError> {
     match violation {
         LineViolation::Refused(refusal) => {
-            let mut said = refusal_sentence(alloc, checked, line, refusal)?;
+            let mut said = refusal_message(alloc, checked, line, refusal)?;
             match intention_note(line) {
-                Some(note) => said.push_str(note)?,
-                None => said.push_str(rule_note(alloc, checked, line, refusal)?.as_str())?,
+                Some(note) => said.text.push_str(note)?,
+                None => {
+                    let note = rule_note(alloc, checked, line, refusal)?;
+                    said.text.push_str(note.as_str())?;
+                }
             }
             Ok(said)
         }
-        LineViolation::NotLocated(fault) => String::from_str(alloc, fault.sentence()),
+        LineViolation::NotLocated(fault) => {
+            PlacedMessage::of(alloc, fault.sentence(), violation.place())
+        }
         LineViolation::NotUtf8(_) | LineViolation::TooLong => {
-            String::from_str(alloc, violation.sentence())
+            PlacedMessage::of(alloc, violation.sentence(), violation.place())
         }
     }
 }
 
 // The sentence on what a line shows of its author's intention, if it shows any.
-fn intention_note(line: &SeenText<'_>) -> Option<&'static str> {
+fn intention_note(line: &KnownText<'_>) -> Option<&'static str> {
     line.shown_intention()?.note()
 }
 
 // What is wrong with a refused line.
-fn refusal_sentence(
+fn refusal_message(
     alloc: Global,
     checked: Checked,
-    line: &SeenText<'_>,
+    line: &KnownText<'_>,
     refusal: Refusal,
-) -> Result<String, AllocError> {
-    if is_of_authority(refusal.rule) && line.has_credentials(refusal.place) {
-        return credentials_sentence(alloc, line);
+) -> Result<PlacedMessage, AllocError> {
+    let place = refusal.place;
+    if is_of_authority(refusal.rule) && line.has_credentials(place) {
+        return PlacedMessage::of(alloc, credentials_sentence(line), place);
     }
     if is_of_authority(refusal.rule) && line.has_bare_ipv6() {
-        return String::from_str(alloc, BARE_IPV6);
+        return PlacedMessage::of(alloc, BARE_IPV6, place);
     }
-    match refusal.rule {
-        Rule::NoScheme => start_sentence(alloc, line),
-        Rule::HostDomain => domain_sentence(alloc, checked.profile, line, refusal.place),
-        Rule::HostNumber => ipv4_sentence(alloc, checked.profile, line.rest_at(refusal.place)),
-        Rule::HostIpv6 => ipv6_sentence(alloc, line.rest_at(refusal.place)),
-        _ => point_sentence(alloc, refusal.rule, line.point_at(refusal.place)),
-    }
+    let text = match refusal.rule {
+        Rule::HostDomain => return domain_message(alloc, checked.profile, line, place),
+        Rule::HostIpv6 => return ipv6_message(alloc, line.rest_at(place), place),
+        Rule::NoScheme => start_sentence(alloc, line)?,
+        Rule::HostNumber => ipv4_sentence(alloc, checked.profile, line.rest_at(place))?,
+        _ => point_sentence(alloc, refusal.rule, line.point_at(place))?,
+    };
+    Ok(PlacedMessage { text, place })
 }
 
 // The sentence on credentials. Links of other schemes than the special ones may need them.
-fn credentials_sentence(alloc: Global, line: &SeenText<'_>) -> Result<String, AllocError> {
-    let advice = if line.is_link() {
-        "; leave them out"
+fn credentials_sentence(line: &KnownText<'_>) -> &'static str {
+    if line.is_link() {
+        LINK_CREDENTIALS
     } else {
-        ""
-    };
-    format!(in alloc; "{CREDENTIALS}{advice}")
+        CREDENTIALS
+    }
 }
 
 // The sentence on a code point that violates a rule, if the rule is about one, otherwise the rule's sentence.

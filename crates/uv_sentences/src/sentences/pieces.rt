@@ -1,12 +1,7 @@
 //! Pieces of a text.
-ghost use Rattle.std.specs.List.{before_first};
-ghost use Rattle.std.specs.Prelude.{◌≡◌, ◌==◌, ◌<◌};
 
-/// What comes before the first such ASCII mark; everything if there is none.
-pub(crate) fn before(text: &str, mark: char) -> &str
-    requires { mark < 128 }
-    ensures { result.now ≡ before_first (λ b. b == mark) text.now }
-{
+/// What comes before the first such mark; everything if there is none.
+pub(crate) fn before(text: &str, mark: char) -> &str {
     match text.split_once(mark) {
         Some((front, _)) => front,
         None => text,

@@ -2,6 +2,7 @@
 
 use crate::sentences::authority::{before_end, before_query};
 use crate::sentences::intention::is_link_scheme;
+use crate::sentences::ipv6::has_bare_ipv6;
 use crate::sentences::pieces::{before, has_piece};
 use uv_model::is_name;
 
@@ -14,6 +15,8 @@ pub(crate) struct Start {
     pub(crate) note: &'static str,
     /// How many bytes come before the query and the fragment.
     pub(crate) path_end: usize,
+    /// Whether the authority, if it has one, is an IPv6 address.
+    pub(crate) has_bare_ipv6: bool,
 }
 
 /// What a text shows before its query and fragment.
@@ -22,6 +25,7 @@ pub(crate) fn start_of(text: &str) -> Start {
         is_link: is_link(text),
         note: scheme_note(text),
         path_end: before_query(text).len(),
+        has_bare_ipv6: has_bare_ipv6(text),
     }
 }
 

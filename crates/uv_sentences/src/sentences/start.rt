@@ -1,7 +1,7 @@
 //! The sentence on a text without a scheme and without a base: what comes before the scheme, or what is likely
 //! missing.
 
-use crate::places::seen_text::SeenText;
+use crate::known_text::KnownText;
 use crate::sentences::authority::{before_end, before_query};
 use crate::sentences::code_point::{is_unseen, point_name};
 use crate::sentences::intention::is_link_scheme;
@@ -18,7 +18,7 @@ const FILE_ENDINGS: [&str; 24] = [
 ];
 
 /// The sentence on a text without a scheme: what comes before it, or that there is none.
-pub(crate) fn start_sentence(alloc: Global, line: &SeenText<'_>) -> Result<String, AllocError> {
+pub(crate) fn start_sentence(alloc: Global, line: &KnownText<'_>) -> Result<String, AllocError> {
     if line.as_str().is_empty() {
         return String::from_str(alloc, "the text is empty");
     }
@@ -37,7 +37,7 @@ pub(crate) fn start_sentence(alloc: Global, line: &SeenText<'_>) -> Result<Strin
 pub(crate) fn start_note(
     alloc: Global,
     wording: Wording,
-    line: &SeenText<'_>,
+    line: &KnownText<'_>,
 ) -> Result<String, AllocError> {
     match stray_in(line) {
         Some(Stray::Point(_)) => return String::from_str(alloc, "; leave it out"),
@@ -116,7 +116,7 @@ enum Stray {
 }
 
 // What comes before the scheme: the first code point, if it can't be seen, or opens a quotation of a link.
-fn stray_in(line: &SeenText<'_>) -> Option<Stray> {
+fn stray_in(line: &KnownText<'_>) -> Option<Stray> {
     let c = line.point_at(0)?;
     if is_unseen(c) {
         return Some(Stray::Point(c));

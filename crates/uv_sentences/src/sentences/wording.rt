@@ -1,9 +1,10 @@
 //! What a sentence calls the things that its reader can set, and what follows the sentence.
 
-use crate::places::seen_text::SeenText;
+use crate::known_text::KnownText;
 use crate::sentences::start::start_note;
 use std::alloc::{AllocError, Global};
 use uv_model::{Profile, Refusal, Rule};
+use uv_rules::LineViolation;
 
 /// What a profile and a base are called in a sentence, depending on where it is read.
 #[derive(Clone, Copy, PartialEq, Eq)]
@@ -52,12 +53,24 @@ pub struct Checked {
     pub wording: Wording,
 }
 
+/// Whether another profile may accept a text with this violation, and the sentence on it depends on that: of its host, by
+/// an empty first segment, or by a drive letter after a host.
+pub fn is_by_choice(violation: LineViolation) -> bool {
+    match violation {
+        LineViolation::Refused(refusal) => matches!(
+            refusal.rule,
+            Rule::HostDomain | Rule::FirstSegmentEmpty | Rule::DriveAfterHost
+        ),
+        LineViolation::NotUtf8(_) | LineViolation::TooLong | LineViolation::NotLocated(_) => false,
+    }
+}
+
 /// What follows the sentence on a refused text that shows nothing else of its author's intention: the profile that
 /// accepts it, if people may want that, or what its scheme requires.
 pub(crate) fn rule_note(
     alloc: Global,
     checked: Checked,
-    line: &SeenText<'_>,
+    line: &KnownText<'_>,
     refusal: Refusal,
 ) -> Result<String, AllocError> {
     let named = named_profile(alloc, checked, refusal.rule)?;
@@ -93,7 +106,7 @@ fn named_profile(alloc: Global, checked: Checked, rule: Rule) -> Result<String, 
 }
 
 // Whether a place is before the query and the fragment.
-fn is_in_path(line: &SeenText<'_>, place: usize) -> bool {
+fn is_in_path(line: &KnownText<'_>, place: usize) -> bool {
     let ahead = line
         .as_str()
         .len()

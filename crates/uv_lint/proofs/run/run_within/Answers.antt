@@ -47,20 +47,6 @@ returns-in_default-clause-fault g c = (
 pub returns-in_default-clause-failed : goal.returns-in_default-clause-failed
 returns-in_default-clause-failed g c = (refl, sym (add-zero (g.W.Sink.failed c.args.writer.now)))
 
-pub returns-in_default-list_end-clause-fault : goal.returns-in_default-list_end-clause-fault
-returns-in_default-list_end-clause-fault g c = (
-  [],
-  Consumes-nil (g.R.Source.remaining c.args.reader.now),
-  inl (record {
-    none_read = refl;
-    kept = Keeps-refl (g.W.Sink.contents c.args.writer.now);
-    none = c.counts-in_default-list_end.ensures ∙ ap (λ r. r.counts) c.new-reporter.ensures;
-  }),
-)
-
-pub returns-in_default-list_end-clause-failed : goal.returns-in_default-list_end-clause-failed
-returns-in_default-list_end-clause-failed g c = (refl, sym (add-zero (g.W.Sink.failed c.args.writer.now)))
-
 -- the run over the lines
 pub returns-clause-report : goal.returns-clause-report
 returns-clause-report g c =
@@ -90,7 +76,7 @@ returns-clause-report g c =
         wrote = Wrote-map P Q _ old new q q.counts (λ lines text.
             is_report setting n is_first begin end start q lines text c.new-reporter.ensures
             (c.as_bytes.ensures.value ∙ c.in-Ok.ensures)
-            (c.as_bytes-2.ensures.value ∙ c.in-Ok-list_end.ensures)) all.3.wrote;
+            (c.as_bytes-2.ensures.value ∙ c.list_end-end.ensures)) all.3.wrote;
         few = all.3.few;
       },
     )) c.run_lines-reporter.ensures.report)
@@ -116,11 +102,11 @@ returns-clause-fault g c =
     let part : (lines : List (List ℕ)) (text : List ℕ) → P' lines text q → Q' lines text q.counts =
     λ lines text. is_part setting limits is_first begin end start q lines text
     c.new-reporter.ensures (c.as_bytes.ensures.value ∙ c.in-Ok.ensures)
-    (c.as_bytes-2.ensures.value ∙ c.in-Ok-list_end.ensures) in
+    (c.as_bytes-2.ensures.value ∙ c.list_end-end.ensures) in
     let is : (lines : List (List ℕ)) (text : List ℕ) → P lines text q → Q lines text q.counts =
     λ lines text. is_report setting n is_first begin end start q lines text
     c.new-reporter.ensures (c.as_bytes.ensures.value ∙ c.in-Ok.ensures)
-    (c.as_bytes-2.ensures.value ∙ c.in-Ok-list_end.ensures) in
+    (c.as_bytes-2.ensures.value ∙ c.list_end-end.ensures) in
     rw (c.counts-2.ensures, c.answer_of_run.ensures) (answers_err c.run_lines-reporter.result.1
     (λ e. (read : List ℕ) × Consumes bytes rest read × LeavesPart P P' P limits e old read (IsAtEnd rest) q new)
     (λ e. (read : List ℕ) × Consumes bytes rest read

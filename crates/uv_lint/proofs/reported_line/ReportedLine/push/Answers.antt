@@ -1,10 +1,11 @@
 -- A diagnostic more, and at the end no violation is left.
 use Rattle.std.proofs.Common.{◌≡◌, ◌+◌, ◌++◌, ◌∷◌, ◌∙◌, [], arith, drop, get_or, option_map, take, take_all, refl}
-use Rattle.std.proofs.Common.{sym, ap, subst, string_bytes, append-nil, append_assoc}
+use Rattle.std.proofs.Common.{sym, ap, subst, append-nil, append_assoc}
 use Rattle.uv_model.specs.declared.rule.Rule.TheVariants.{NoScheme}
-use Rattle.uv_sentences.specs.declared.line_violation.LineViolation.{LineViolation}
-use Rattle.uv_sentences.specs.declared.line_violation.LineViolation.TheVariants.{Refused}
+use Rattle.uv_rules.specs.declared.line_violation.LineViolation.{LineViolation}
+use Rattle.uv_rules.specs.declared.line_violation.LineViolation.TheVariants.{Refused}
 use Rattle.uv_report.specs.Diagnostic.{fix_view}
+use Rattle.uv_sentences.specs.Sentences.Message.{message_view}
 use Rattle.uv_lines.specs.Fault.{failed_within}
 use Rattle.uv_lines.specs.Waiting.{Passes}
 use Rattle.uv_lines.proofs.WaitingLemmas.{parts_after, passes_more, passes_none}
@@ -36,11 +37,11 @@ loop-violation-init g c =
       );
       quiet = refl;
       counter = c.new-counter.ensures;
-      seen = c.requires.seen;
+      known = c.requires.known;
     }
 
 pub say_violation-requires-clause-seen : goal.say_violation-requires-clause-seen
-say_violation-requires-clause-seen g c = c.go_to.ensures ∙ c.loop-violation.invariant.seen
+say_violation-requires-clause-seen g c = c.seen.ensures ∙ c.go_to.ensures ∙ c.loop-violation.invariant.known
 
 pub loop-violation-preserved : goal.loop-violation-preserved
 loop-violation-preserved g c =
@@ -55,13 +56,13 @@ loop-violation-preserved g c =
     let said = invariant.said in
     let counted = c.column-column.ensures.same ∙ invariant.counter in
     let told = option_map fix_view c.loop-violation.fix in
-    let message = string_bytes c.in-Ok.message in
+    let message = message_view c.in-Ok.message in
     let fix = fix_on setting.columns reported (option_map mended_line_view c.args.mended.now) in
     let one = one_text setting.form setting.format setting.look c.loop-violation.is_first
     (diagnostic_on setting.columns reported told violation message) in
     let old = g.W.Sink.contents c.args.writer.now in
     let new = g.W.Sink.contents c.say_violation.new.writer in
-    let is : diagnostic_in reported c.region.result told violation c.as_str.result.now
+    let is : diagnostic_in reported c.region.result told violation message
     ≡ diagnostic_on setting.columns reported told violation message =
     rw (
       c.region.ensures,
@@ -71,7 +72,6 @@ loop-violation-preserved g c =
       invariant.counter,
       c.place.ensures,
       c.end.ensures,
-      c.as_str.ensures.value,
     ) refl in
     record {
       said = (
@@ -92,7 +92,7 @@ loop-violation-preserved g c =
       );
       quiet = c.in_default-say_violation.ensures.quiet ∙ invariant.quiet;
       counter = c.column-column.ensures.same ∙ invariant.counter;
-      seen = c.go_to.ensures ∙ invariant.seen;
+      known = c.go_to.ensures ∙ invariant.known;
     }
 
 -- if no memory was left for the message on a violation, the diagnostics before it were said
@@ -132,11 +132,11 @@ returns-in-Err-clause-fault g c =
     let said = invariant.said in
     let counted = c.column-column.ensures.same ∙ invariant.counter in
     let told = option_map fix_view c.loop-violation.fix in
-    let message = string_bytes c.in-Ok.message in
+    let message = message_view c.in-Ok.message in
     let fix = fix_on setting.columns reported (option_map mended_line_view c.args.mended.now) in
     let one = one_text setting.form setting.format setting.look c.loop-violation.is_first
     (diagnostic_on setting.columns reported told violation message) in
-    let is : diagnostic_in reported c.region.result told violation c.as_str.result.now
+    let is : diagnostic_in reported c.region.result told violation message
     ≡ diagnostic_on setting.columns reported told violation message =
     rw (
       c.region.ensures,
@@ -146,7 +146,6 @@ returns-in-Err-clause-fault g c =
       invariant.counter,
       c.place.ensures,
       c.end.ensures,
-      c.as_str.ensures.value,
     ) refl in
     let with_one = said_next setting.form setting.format setting.look setting.columns reported c.args.is_first
     c.loop-violation.is_first fix told violations i none said.2.0 message said.0 c.loop-violation-test.true said.2.2 in

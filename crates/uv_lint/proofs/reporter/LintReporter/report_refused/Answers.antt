@@ -1,6 +1,6 @@
 -- The least violation of its text is found with the line.
 use Rattle.std.proofs.Common.{[], ◌∷◌, chars, sym}
-use Rattle.uv_sentences.specs.declared.line_violation.LineViolation.TheVariants.{Refused}
+use Rattle.uv_rules.specs.declared.line_violation.LineViolation.TheVariants.{Refused}
 use Rattle.uv_lint.proofs.LineViolationLemmas.{least_violation}
 use Rattle.uv_lint.proofs.reporter.LintReporter.report_refused.Goals as goal
 

@@ -17,7 +17,7 @@ returns-clause-text g c =
     let new = g.W.Sink.contents c.push.new.writer in
     on_ok c.push.result _ _
     (λ said. subst (λ p. HasReported p reported c.args.violations.now c.args.text.now.items old new
-    c.push.new.text.items) c.self.view_is (option_map mended_line_view c.in-Ok.mended, rw c.seen_text-seen.ensures at c.in-Ok.ensures, said))
+    c.push.new.text.items) c.self.view_is (option_map mended_line_view c.in-Ok.mended, rw c.known_text-known.ensures at c.in-Ok.ensures, said))
     c.push.ensures.text
 
 pub returns-clause-fault : goal.returns-clause-fault
@@ -28,4 +28,4 @@ returns-clause-fault g c =
     parts_left c.push.result _ (HasBegun c.args.self.now reported c.args.violations.now) c.args.text.now.items old
     c.push.new.text.items new
     (λ parts first. subst (λ p. HasBegun p reported c.args.violations.now parts) c.self.view_is
-    (inr (option_map mended_line_view c.in-Ok.mended, rw c.seen_text-seen.ensures at c.in-Ok.ensures, first))) c.push.ensures.fault
+    (inr (option_map mended_line_view c.in-Ok.mended, rw c.known_text-known.ensures at c.in-Ok.ensures, first))) c.push.ensures.fault

@@ -1,7 +1,7 @@
 -- Below printable ASCII are spaces.
 use Rattle.std.proofs.Common.{◌≡◌, ◌++◌, ◌∙◌, OnOk, ap, length, string_bytes, subst, sym, take, true}
 use Rattle.std.specs.List.{list_all}
-use Rattle.uv_sentences.specs.Escaping.Printable.{is_printable}
+use Rattle.uv_shown.specs.Escaping.Printable.{is_printable}
 use Rattle.uv_report.proofs.PrintableLemmas.{front_padding}
 use Rattle.uv_report.proofs.formats.caret.push_padding.Goals as goal
 

@@ -1,8 +1,8 @@
 -- The start tag's three pieces.
 use Rattle.std.proofs.Common.{codes, string_bytes}
-use Rattle.uv_sentences.specs.declared.escaping.escapes.Escapes.TheVariants.{Attribute}
+use Rattle.uv_shown.specs.declared.escaping.escapes.Escapes.TheVariants.{Attribute}
 use Rattle.uv_report.specs.Formats.Checkstyle.{file_begin}
-use Rattle.uv_sentences.specs.Escaping.Escapes.{escaped}
+use Rattle.uv_shown.specs.Escaping.Escapes.{escaped}
 use Rattle.uv_report.proofs.PieceLemmas.{three_pieces}
 use Rattle.uv_report.proofs.formats.checkstyle.push_checkstyle_file.Goals as goal
 

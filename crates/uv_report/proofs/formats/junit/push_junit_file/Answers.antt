@@ -1,7 +1,7 @@
 -- The five pieces of a suite's beginning.
 use Rattle.std.proofs.Common.{codes, string_bytes}
-use Rattle.uv_sentences.specs.declared.escaping.escapes.Escapes.TheVariants.{Attribute}
-use Rattle.uv_sentences.specs.Escaping.Escapes.{escaped}
+use Rattle.uv_shown.specs.declared.escaping.escapes.Escapes.TheVariants.{Attribute}
+use Rattle.uv_shown.specs.Escaping.Escapes.{escaped}
 use Rattle.uv_report.specs.Formats.Junit.{suite_begin}
 use Rattle.uv_report.proofs.PieceLemmas.{five_pieces}
 use Rattle.uv_report.proofs.formats.junit.push_junit_file.Goals as goal

@@ -2,7 +2,7 @@
 use Rattle.std.proofs.Common.{◌≡◌, ◌∙◌, ◌+◌, ◌-◌, ap, arith, length, subst, sym, take}
 use Rattle.std.specs.Str.{IsAscii, chars}
 use Rattle.uv_report.proofs.ColumnLemmas.{further_is_mark}
-use Rattle.uv_sentences.proofs.PlaceLemmas.{ascii_points, chars_after_ascii}
+use Rattle.uv_shown.proofs.PlaceLemmas.{ascii_points, chars_after_ascii}
 use Rattle.uv_report.proofs.places.column_counter.point_after_ascii.Goals as goal
 
 pub returns-in-Some : goal.returns-in-Some
