@@ -289,6 +289,10 @@ points 'http://h/%41/%g4' 'http://h/%41/%g4' '             ^'
 points 'http://h-1:80a1/' 'http://h-1:80a1/' '             ^'
 points 'http://h/a_b c' 'http://h/a_b c' '            ^'
 points 'http://a..b_/' 'http://a..b_/' '           ^'
+points 'http://ab\xef\xbc\x9f/' 'http://ab\xef\xbc\x9f/' '         ^'
+points 'http://ab\xe2\x80\x8dc/' 'http://ab\xe2\x80\x8dc/' '         ^'
+points 'http://[::\xc3\xa9:g]/' 'http://[::\xc3\xa9:g]/' '          ^'
+points 'http://[1[2::]/' 'http://[1[2::]/' '         ^'
 points 'http://ab..c/' 'http://ab..c/' '       ^'
 tail_of=$(printf 'a%.0s' {1..150})
 points "http://${tail_of}_$tail_of/" "\xe2\x80\xa6${tail_of:0:99}_${tail_of:0:98}\xe2\x80\xa6" "$(printf ' %.0s' {0..99})^"
@@ -357,4 +361,4 @@ ends_at 10 '\t\t' 25
 ends_at 40 'a\t' 49
 ends_at 1 '\x1b\xe2\x80\xae' 3
 
-all_cases 123
+all_cases 127

@@ -214,9 +214,11 @@ want([(m[1], int(m[2]), int(m[3]), m[5], m[4]) for m in entries if m]
      == [(shown(one[0]),) + one[1:] for one in found], "gnu: other diagnostics")
 
 def named_place(sentence, text, place):
-    """The first place from there on with the ASCII code point that the sentence names, or the place itself."""
-    m = re.match(r"U\+00([0-7][0-9A-F]) ", sentence)
-    return max(place, text.find(chr(int(m[1], 16)), place)) if m else place
+    """The first place from there on with the code point that the sentence names, or the place itself. Of an IPv6 address
+    the bracket at the place isn't one."""
+    m = re.match(r"U\+([0-9A-F]{4,6})\b", sentence)
+    first = place + ("is not a hex digit of an IPv6 address" in sentence)
+    return max(place, text.find(chr(int(m[1], 16)), first)) if m else place
 
 
 # The caret is below what the sentence names: as many columns before it as the code points before that are wide.

@@ -194,6 +194,7 @@ typedef struct urlcheck_reported_numbers {
     uint64_t repeat;
     uint32_t kind;
     uint32_t offered;
+    size_t named;
 } urlcheck_reported_numbers;
 typedef struct urlcheck_reported {
     urlcheck_reported_numbers numbers;

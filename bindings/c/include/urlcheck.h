@@ -268,7 +268,7 @@ typedef struct urlcheck_line {
 
 /* The answer of a call that writes a text: `found` says URLCHECK_DONE, or why there is no text. */
 typedef struct urlcheck_written {
-    urlcheck_finding found; /* if a text isn't UTF-8, also how far it is */
+    urlcheck_finding found; /* if a text isn't UTF-8, also how far it is; of a message also which place it names */
     size_t length;          /* the length of the text in bytes, even if it isn't written for lack of room; or 0 */
 } urlcheck_written;
 
@@ -295,6 +295,8 @@ typedef struct urlcheck_reported_numbers {
                                    GitLab's fingerprint; 0 is always allowed */
     uint32_t kind;              /* of the fix: one of urlcheck_mend_kind, or 0 if there is none */
     uint32_t offered;           /* 0 if the fix isn't offered, as urlcheck_mended says */
+    size_t named;               /* the place of the code point that the message names, which `caret` marks: that of
+                                   urlcheck_message's answer; one before `place` stands for `place`, so 0 always does */
 } urlcheck_reported_numbers;
 
 /* A diagnostic, for urlcheck_diagnostic. Its texts are UTF-8. */
@@ -417,7 +419,7 @@ void urlcheck_report_file_begin_to(urlcheck_written *answer, uint32_t format, co
 /*
  * A diagnostic of the report. `is_coloured` is 1 if it is to have the colours of a terminal, as only `gnu` and `caret`
  * have them, otherwise 0. `is_first` is 1 if it is the first one, otherwise 0. There is none if no format has the
- * number (URLCHECK_NO_FORMAT); if the text isn't UTF-8 (URLCHECK_NO_UTF8), or the place is after its end
+ * number (URLCHECK_NO_FORMAT); if the text isn't UTF-8 (URLCHECK_NO_UTF8), or one of its two places is after its end
  * (URLCHECK_NO_PLACE); if the file's name isn't UTF-8 (URLCHECK_FILE_NO_UTF8), or another text except the fix
  * (URLCHECK_REPORTED_NO_UTF8); if a line or a column is out of range, or a region ends before it begins
  * (URLCHECK_NO_COLUMN); if no kind has the number (URLCHECK_NO_KIND), or the fix isn't UTF-8
@@ -436,7 +438,8 @@ void urlcheck_report_end_to(urlcheck_written *answer, uint32_t format, uint32_t 
 /*
  * The sentence on a violation of a text under a profile, as in the format gnu after `error: `. The base is that of
  * urlcheck_check: the sentence may name a wider profile, if that accepts the text against it. The rule is one of
- * urlcheck_rule or urlcheck_line_rule, the place is in code points, and the wording is one of urlcheck_wording.
+ * urlcheck_rule or urlcheck_line_rule, the place is in code points, and the wording is one of urlcheck_wording. With
+ * URLCHECK_DONE `found` has the place of the code point that the sentence names: this one, or a later one of the host.
  */
 void urlcheck_message_to(urlcheck_written *answer, const uint8_t *text, size_t length, uint32_t profile,
                          const urlcheck_base *base, uint32_t wording, uint32_t rule, size_t place, uint8_t *out,
@@ -641,10 +644,11 @@ URLCHECK_HOLDS(offsetof(urlcheck_counted, column) == 24);
 URLCHECK_HOLDS(sizeof(urlcheck_region) == 32 && offsetof(urlcheck_region, line) == 0);
 URLCHECK_HOLDS(offsetof(urlcheck_region, column) == 8 && offsetof(urlcheck_region, end_line) == 16);
 URLCHECK_HOLDS(offsetof(urlcheck_region, end_column) == 24);
-URLCHECK_HOLDS(sizeof(urlcheck_reported_numbers) == 88 && offsetof(urlcheck_reported_numbers, region) == 0);
+URLCHECK_HOLDS(sizeof(urlcheck_reported_numbers) == 96 && offsetof(urlcheck_reported_numbers, region) == 0);
 URLCHECK_HOLDS(offsetof(urlcheck_reported_numbers, fix_region) == 32);
 URLCHECK_HOLDS(offsetof(urlcheck_reported_numbers, place) == 64 && offsetof(urlcheck_reported_numbers, repeat) == 72);
 URLCHECK_HOLDS(offsetof(urlcheck_reported_numbers, kind) == 80 && offsetof(urlcheck_reported_numbers, offered) == 84);
+URLCHECK_HOLDS(offsetof(urlcheck_reported_numbers, named) == 88);
 #undef URLCHECK_HOLDS
 #endif
 #endif

@@ -68,8 +68,8 @@ static urlcheck_written written_once(const writing *writing, uint8_t *out, size_
     return written;
 }
 
-/* The text that a call writes. */
-static PyObject *written_text(const writing *writing) {
+/* The text that a call writes, and what else it answers. */
+static PyObject *text_and_finding(const writing *writing, urlcheck_finding *found) {
     uint8_t most[SHORT], *out = most;
     urlcheck_written written = written_once(writing, most, SHORT);
     PyObject *text = NULL;
@@ -81,7 +81,15 @@ static PyObject *written_text(const writing *writing) {
     }
     if (is_given(written.found)) text = text_of(out, written.length);
     if (out != most) free(out);
+    *found = written.found;
     return text;
+}
+
+/* The text alone. */
+static PyObject *written_text(const writing *writing) {
+    urlcheck_finding found;
+
+    return text_and_finding(writing, &found);
 }
 
 /* A number from 0. In place of one that doesn't fit stands the greatest, which isn't a place, line or column of a text. */
@@ -130,12 +138,13 @@ PyObject *native_file_end(PyObject *module, PyObject *args) {
     return PyArg_ParseTuple(args, "I:file_end", &writing.format) ? written_text(&writing) : NULL;
 }
 
-/* message(text, base, profile, wording, rule, place) */
+/* message(text, base, profile, wording, rule, place): the sentence, and the place of the code point that it names. */
 PyObject *native_message(PyObject *module, PyObject *args) {
     state *state = PyModule_GetState(module);
     writing writing = {.call = MESSAGE};
     PyObject *arguments[3], *text = NULL;
     request request = {0};
+    urlcheck_finding found = {0};
 
     if (!PyArg_ParseTuple(args, "OOOIIO&:message", &arguments[0], &arguments[1], &arguments[2], &writing.wording,
                           &writing.rule, read_number, &writing.place))
@@ -143,33 +152,35 @@ PyObject *native_message(PyObject *module, PyObject *args) {
     if (read_request(state, arguments, &request) && (!request.base || is_checked(state, request.base->found))) {
         writing.text = request.data, writing.length = request.length;
         writing.profile = request.profile, writing.base = request.base;
-        text = written_text(&writing);
+        text = text_and_finding(&writing, &found);
     }
     drop_request(&request);
-    return text;
+    return text ? Py_BuildValue("Nn", text, (Py_ssize_t)found.place) : NULL;
 }
 
 /*
  * diagnostic(format, is_coloured, is_first, (file, rule, uri, message, within, text, fix), (line, column, end_line,
- * end_column, fix_line, fix_column, fix_end_line, fix_end_column, place, repeat, kind, offered)), as urlcheck_reported
- * has them.
+ * end_column, fix_line, fix_column, fix_end_line, fix_end_column, place, named, repeat, kind, offered)), as
+ * urlcheck_reported has them.
  */
 PyObject *native_diagnostic(PyObject *module, PyObject *args) {
     writing writing = {.call = DIAGNOSTIC};
     urlcheck_reported *it = &writing.reported;
     urlcheck_region *at = &it->numbers.region, *fix = &it->numbers.fix_region;
+    uint64_t named;
 
     (void)module;
-    if (!PyArg_ParseTuple(args, "Ipp(s#s#s#s#s#s#s#)(O&O&O&O&O&O&O&O&O&O&II):diagnostic", &writing.format,
+    if (!PyArg_ParseTuple(args, "Ipp(s#s#s#s#s#s#s#)(O&O&O&O&O&O&O&O&O&O&O&II):diagnostic", &writing.format,
                           &writing.is_coloured, &writing.is_first, &it->file, &it->file_length, &it->rule,
                           &it->rule_length, &it->uri, &it->uri_length, &it->message, &it->message_length, &it->within,
                           &it->within_length, &it->text, &it->text_length, &it->fix, &it->fix_length, read_number,
                           &at->line, read_number, &at->column, read_number, &at->end_line, read_number,
                           &at->end_column, read_number, &fix->line, read_number, &fix->column, read_number,
                           &fix->end_line, read_number, &fix->end_column, read_number, &writing.place, read_number,
-                          &it->numbers.repeat, &it->numbers.kind, &it->numbers.offered))
+                          &named, read_number, &it->numbers.repeat, &it->numbers.kind, &it->numbers.offered))
         return NULL;
     it->numbers.place = (size_t)writing.place;
+    it->numbers.named = (size_t)named;
     writing.length = it->text_length;
     return written_text(&writing);
 }

@@ -89,20 +89,21 @@ static bool takes_text(fixed_text *taken, uint32_t what, uint32_t number) {
 
 /*
  * What is reported of a violation of the text, which begins in the column `column`, and whose sentence `message` has
- * just written. In the room of the base is the name of the file, and after it the fix, if its kind isn't 0.
+ * just written, with the place that it names. In the room of the base is the name of the file, and after it the fix, if its kind isn't 0.
  */
 void diagnostic(uint32_t format, uint32_t unit, uint32_t is_first, uint32_t rule, uint32_t place, uint32_t line,
                 uint32_t column, uint32_t length, uint32_t file_length, uint32_t kind, uint32_t is_offered,
                 uint32_t fix_length) {
     const uint8_t *said = out, *text = heap_text(), *file = heap_base();
-    size_t said_length = answer[LENGTH];
+    size_t said_length = answer[LENGTH], named = answer[PLACE];
     uint64_t points = code_points(text, length);
     bool has_point = rule < URLCHECK_LINE_NO_UTF8 && place < points;
     urlcheck_region whole = {line, column, line, column_of(length, unit, column, points)};
     urlcheck_region wrong = {line, column_of(length, unit, column, place), line, 0};
     if (wrong.column == 0 || whole.end_column == 0) return;
     wrong.end_column = has_point ? column_of(length, unit, column, (uint64_t)place + 1) : wrong.column;
-    urlcheck_reported_numbers numbers = {.region = wrong, .place = place, .kind = kind, .offered = is_offered};
+    urlcheck_reported_numbers numbers = {
+        .region = wrong, .place = place, .kind = kind, .offered = is_offered, .named = named};
     if (kind != 0) numbers.fix_region = whole;
     fixed_text name, address;
     if (!takes_text(&name, URLCHECK_RULE_NAME, rule) || !takes_text(&address, URLCHECK_RULE_ADDRESS, rule)) return;

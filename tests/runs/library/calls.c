@@ -89,6 +89,18 @@ static void messages(void) {
     refuses(urlcheck_message(bytes("a"), 1, 0, NULL, 0, 1, 0, NULL, 9), URLCHECK_NULL, "a message into null");
 }
 
+/* A message answers the place of the code point that it names, in code points and in bytes: that of the violation, or one
+ * further on in the host. */
+static void named_places(void) {
+    urlcheck_finding found = message("http://\xc3\xa9_y/", 0, URLCHECK_HOST_DOMAIN, 7).found;
+    expect(found.place == 8 && found.byte_place == 9, "the place of a code point that no domain has");
+    found = message("http://[1::g]/", 0, URLCHECK_HOST_IPV6, 7).found;
+    expect(found.place == 11 && found.byte_place == 11, "the place of what is no hex digit");
+    found = message("http://h/a b", 0, URLCHECK_CODE_POINT, 10).found;
+    expect(found.place == 10 && found.byte_place == 10, "the place of what no URL has");
+    memset(out, 7, sizeof out);
+}
+
 static const char TEXT[] = "http://h/a b", MENDED[] = "http://h/a%20b";
 
 /* Puts a text into a diagnostic. */
@@ -203,6 +215,16 @@ static void notes(void) {
     expect(place_of("\nhelp: write http://h/a%20b\n", URLCHECK_CARET, &it) > 0, "a text that is offered all the same");
 }
 
+/* The caret is below the code point that the message names, but not before the wrong place. */
+static void carets(void) {
+    urlcheck_reported it = space();
+    expect(place_of("\n          ^\n", URLCHECK_CARET, &it) > 0, "a caret below the wrong place");
+    it.numbers.named = 11;
+    expect(place_of("\n           ^\n", URLCHECK_CARET, &it) > 0, "a caret below what the message names");
+    it.numbers.named = 9;
+    expect(place_of("\n          ^\n", URLCHECK_CARET, &it) > 0, "no caret before the wrong place");
+}
+
 /* A diagnostic in which a member has this value is refused so. */
 #define REFUSES_WITH(member, value, outcome, what) \
     do { \
@@ -246,6 +268,7 @@ static void bad_diagnostics(void) {
     REFUSES_WITH(region.end_line, 2, URLCHECK_NO_COLUMN, "a region that ends in a line before");
     REFUSES_WITH(kind, 4, URLCHECK_NO_KIND, "a diagnostic of no kind");
     REFUSES_WITH(place, 13, URLCHECK_NO_PLACE, "a diagnostic after the end");
+    REFUSES_WITH(named, 13, URLCHECK_NO_PLACE, "a message that names a place after the end");
     refuses(diagnostic(0, NULL), URLCHECK_NULL, "no diagnostic");
     refuses(urlcheck_diagnostic(0, 0, 1, &it, NULL, 9), URLCHECK_NULL, "a diagnostic into null");
 }
@@ -550,8 +573,10 @@ int main(void) {
     memset(out, 7, sizeof out);
     messages();
     messages_against();
+    named_places();
     diagnostics();
     parts_of_files();
+    carets();
     commas();
     notes();
     bad_diagnostics();

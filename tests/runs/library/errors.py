@@ -45,7 +45,7 @@ def holding(held):
 
 def diagnosed(line=1, kind=0, file="f"):
     """What the extension module writes of a link by these words and numbers."""
-    return _native.diagnostic(0, False, True, (file, "percent", "", "m", "", "a", ""), (line, 1, 1, 2, 0, 0, 0, 0, 0, 0, kind, 0))
+    return _native.diagnostic(0, False, True, (file, "percent", "", "m", "", "a", ""), (line, 1, 1, 2, 0, 0, 0, 0, 0, 0, 0, kind, 0))
 
 
 def against(base):

@@ -105,6 +105,7 @@ static void texts(int call) {
     it.rule = (uint32_t)number();
     if (it.rule > 15 && it.rule < 24) it.rule = rules[it.rule - 16];
     it.place = of->numbers.place = number();
+    of->numbers.named = number();
     of->numbers.region = region();
     of->numbers.fix_region = region();
     of->numbers.repeat = number();

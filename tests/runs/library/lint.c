@@ -43,8 +43,8 @@ static urlcheck_written written(const asked *it, uint8_t *out, size_t room) {
     }
 }
 
-/* The text of a call, in memory of exactly its length. */
-static uint8_t *text_of(const asked *it, size_t *length) {
+/* The text of a call, in memory of exactly its length, and what else that answers. */
+static uint8_t *text_and_answer(const asked *it, size_t *length, urlcheck_written *answer) {
     urlcheck_written first = written(it, NULL, 0);
     if (first.found.verdict != URLCHECK_DONE) fail("a text isn't given");
     uint8_t *out = taken(first.length);
@@ -56,14 +56,16 @@ static uint8_t *text_of(const asked *it, size_t *length) {
             if (out[i] != 'x') fail("more is written than there is room for");
         }
     }
-    if (written(it, out, first.length).length != first.length) fail("a length isn't the same");
+    *answer = written(it, out, first.length);
+    if (answer->length != first.length) fail("a length isn't the same");
     *length = first.length;
     return out;
 }
 
 static void say(const asked *it) {
     size_t length;
-    uint8_t *out = text_of(it, &length);
+    urlcheck_written answer;
+    uint8_t *out = text_and_answer(it, &length, &answer);
     if (length && fwrite(out, 1, length, stdout) != length) fail("the output failed");
     free(out);
 }
@@ -151,7 +153,9 @@ static void report(const uint8_t *text, size_t length, uint64_t line, int *is_fi
     of->uri = rule_text(URLCHECK_RULE_ADDRESS, it.rule, &of->uri_length);
     asked message = it;
     message.call = MESSAGE;
-    of->message = text_of(&message, &of->message_length);
+    urlcheck_written answer;
+    of->message = text_and_answer(&message, &of->message_length, &answer);
+    of->numbers.named = answer.found.place;
     say(&it);
     *is_first = 0;
     free((void *)of->rule);

@@ -5,11 +5,11 @@ from dataclasses import replace
 from typing import Dict, FrozenSet, List, NamedTuple, Optional, Tuple, Union
 
 from .. import Base, BaseRefused, Mended, Refused, Region, Violation
-from .. import check, mend, message, resolve, violations
+from .. import check, mend, resolve, violations
 from .._documents.configuration import Configuration
 from .._readers.source import Asks, Link, NamedBase, Source
 from .columns import Places
-from .report import Reported
+from .report import Reported, placed_message
 from .rules import OF_ASKS, OF_FORMATS, address_of
 
 SOMEWHERE = "https://example.com/"
@@ -38,6 +38,8 @@ class Wrong(NamedTuple):
 
     rule: str
     place: int
+    named: int
+    """The place of the code point that the message names."""
     message: str
     mended: Optional[Mended]
 
@@ -127,6 +129,7 @@ class Checker:
             text=link.text,
             region=Region(line, column, line, end_of(places, link, wrong.place)),
             place=wrong.place,
+            named=wrong.named,
             mended=writing and replace(writing.mended, text=writing.text),
             fixed=writing and Region(*places.position(writing.start), *places.position(writing.end)),
             repeat=repeat,
@@ -170,7 +173,8 @@ class Checker:
                 return None
             space = _SPACE.search(text)
             mended = self._mended(text, base) if space else None
-            return Wrong(rule.name, space.start() if space else 0, rule.sentence, mended)
+            place = space.start() if space else 0
+            return Wrong(rule.name, place, place, rule.sentence, mended)
         if asks is Asks.ABSOLUTE:
             if not text and self._is_empty_taken:
                 return None
@@ -181,8 +185,8 @@ class Checker:
         fault = self._reported(text, base, answer, selected)
         if fault is None:
             return None
-        said = message(text, fault, self._profile, self._wording, base)
-        return Wrong(fault.rule, fault.place, said, self._mended(text, base))
+        said, named = placed_message(text, fault, self._profile, self._wording, base)
+        return Wrong(fault.rule, fault.place, named, said, self._mended(text, base))
 
     def _reported(
         self, text: str, base: Optional[Base], refused: Refused, selected: FrozenSet[str]

@@ -128,6 +128,13 @@ def message(
     how the sentence names another profile that accepts the text, if it does. Raises ``ValueError`` for another one and
     where the place is after the text's end, and what ``check`` raises of a text, a base and a profile.
     """
+    return placed_message(text, found, profile, wording, base)[0]
+
+
+def placed_message(
+    text: str, found: Union[Refused, Violation, BaseRefused], profile: AnyProfile, wording: str, base: AnyBase
+) -> Tuple[str, int]:
+    """The same, and the place of the code point that it names."""
     if not isinstance(text, str):
         raise TypeError("a text is a str, not {}".format(type(text).__name__))
     words = _named(wording, WORDINGS, "wording")
@@ -237,6 +244,8 @@ class Reported(NamedTuple):
     region: Region
     """Where what is wrong is."""
     place: int
+    named: int
+    """The place of the code point that the message names."""
     mended: Optional[Mended]
     fixed: Optional[Region]
     """The place of the text, if another one may be written there."""
@@ -249,7 +258,7 @@ def _reported(it: Diagnostic, unit: str, wording: str) -> Reported:
     _numbered(it.line, it.column, *(() if it.end is None else (it.end,)))
     wrong = it.text[it.place : it.place + 1]
     end = native.column(wrong, UNITS.index(unit), it.column, len(wrong)) if it.end is None else it.end
-    said = message(it.text, Violation(it.rule, it.place), it.profile, wording, it.base)
+    said, named = placed_message(it.text, Violation(it.rule, it.place), it.profile, wording, it.base)
     region = Region(it.line, it.column, it.line, end)
     if it.region is not None:
         _numbered(*it.region)
@@ -257,7 +266,7 @@ def _reported(it: Diagnostic, unit: str, wording: str) -> Reported:
             raise ValueError("a region ends before it begins")
     fixed = None if it.mended is None else it.region
     address = address_of(it.rule)
-    return Reported(it.file, it.rule, address, said, "", it.text, region, it.place, it.mended, fixed, it.repeat)
+    return Reported(it.file, it.rule, address, said, "", it.text, region, it.place, named, it.mended, fixed, it.repeat)
 
 
 def written(format: str, is_coloured: bool, it: Reported, is_first: bool) -> str:
@@ -268,7 +277,8 @@ def written(format: str, is_coloured: bool, it: Reported, is_first: bool) -> str
     if it.mended is not None:
         text, kind, offered = it.mended.text, _KINDS[it.mended.kind], int(it.mended.is_offered)
     strings = it.file, it.rule, it.address, it.message, it.within, it.text, text
-    numbers = *it.region, *(it.fixed or _NOWHERE), _placed(it.text, it.place), it.repeat, kind, offered
+    places = _placed(it.text, it.place), it.named
+    numbers = *it.region, *(it.fixed or _NOWHERE), *places, it.repeat, kind, offered
     said = native.diagnostic(number, is_coloured, is_first, strings, numbers)
     return native.file_begin(number, it.file) + said + native.file_end(number)
 
