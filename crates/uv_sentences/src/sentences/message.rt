@@ -15,13 +15,9 @@ use uv_model::{Refusal, Rule};
 use uv_rules::LineViolation;
 use uv_shown::{is_printable_text, push_shown};
 
-// The sentence on a URL that has credentials, and on a link that has them.
+// The sentence on a link that has credentials.
 const CREDENTIALS: &str =
     "a URL string has no credentials: no user name, password or @ before its host";
-
-const LINK_CREDENTIALS: &str =
-    "a URL string has no credentials: no user name, password or @ before its host; leave \
-    them out";
 
 // The sentence on a link whose host is an IPv6 address without brackets.
 const BARE_IPV6: &str = "a host that is an IPv6 address is written in brackets";
@@ -109,7 +105,8 @@ fn refusal_message(
 ) -> Result<PlacedMessage, AllocError> {
     let place = refusal.place;
     if is_of_authority(refusal.rule) && line.has_credentials(place) {
-        return PlacedMessage::of(alloc, credentials_sentence(line), place);
+        let text = credentials_sentence(alloc, line)?;
+        return Ok(PlacedMessage { text, place });
     }
     if is_of_authority(refusal.rule) && line.has_bare_ipv6() {
         return PlacedMessage::of(alloc, BARE_IPV6, place);
@@ -125,12 +122,13 @@ fn refusal_message(
 }
 
 // The sentence on credentials. Links of other schemes than the special ones may need them.
-fn credentials_sentence(line: &KnownText<'_>) -> &'static str {
-    if line.is_link() {
-        LINK_CREDENTIALS
+fn credentials_sentence(alloc: Global, line: &KnownText<'_>) -> Result<String, AllocError> {
+    let advice = if line.is_link() {
+        "; leave them out"
     } else {
-        CREDENTIALS
-    }
+        ""
+    };
+    format!(in alloc; "{CREDENTIALS}{advice}")
 }
 
 // The sentence on a code point that violates a rule, if the rule is about one, otherwise the rule's sentence.
